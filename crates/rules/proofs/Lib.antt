@@ -7,3 +7,8 @@ pub mod Literals
 pub mod Ids
 pub mod Running
 pub mod Soundness
+pub mod Words
+pub mod Counting
+pub mod Decimal
+pub mod Limited
+pub mod RoundTrip
