@@ -1,3 +1,4 @@
 -- The theorems of the crate.
 pub mod Truth
 pub mod Solutions
+pub mod Examples

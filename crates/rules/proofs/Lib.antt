@@ -1,7 +1,7 @@
--- The laws and theorems of the crate. The theorems that a reader looks for are in `Soundness`, `RoundTrip`, `Running`,
--- `Ids` and `Counting`; `Vectors` and `Readings` are the document's examples.
-pub mod Vectors
-pub mod Readings
+-- The laws and theorems of the crate. The theorems that a reader looks for are in `Soundness`, `RoundTrip`, `Limited`,
+-- `Running`, `Ids` and `Counting`; `ExampleFormulas` and `ExampleAnswers` are the document's examples, computed.
+pub mod ExampleFormulas
+pub mod ExampleAnswers
 pub mod Options
 pub mod Literals
 pub mod Ids

@@ -62,10 +62,12 @@ line-lacks v c =
 header-line : (v c : ℕ) → v ≤ maxVariable → c ≤ maxClauses → header (line v c) ≡ some (v, c)
 unfolding header line afterPrefix
 header-line v c hv hc =
-    rw (before-first 32 (decimal v) (decimal c) (digits-lack 32 (omega arith) (decimal v) (decimal-digits v)),
-    behind-first 32 (decimal v) (decimal c) (digits-lack 32 (omega arith) (decimal v) (decimal-digits v)),
-    count-decimal maxVariable v hv,
-    count-decimal maxClauses c hc)
+    rw (
+      before-first 32 (decimal v) (decimal c) (digits-lack 32 (omega arith) (decimal v) (decimal-digits v)),
+      behind-first 32 (decimal v) (decimal c) (digits-lack 32 (omega arith) (decimal v) (decimal-digits v)),
+      count-decimal maxVariable v hv,
+      count-decimal maxClauses c hc,
+    )
 
 -- Clauses
 
