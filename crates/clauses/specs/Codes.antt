@@ -1,0 +1,14 @@
+-- Literals as numbers: 2v says that variable v is true, 2v + 1 that it is false.
+use Prim.Native.Nat.{ℕ, _+_, _*_, _/_, _%_}
+use mathlib.Core.Bool.{Bool, true, false}
+use lib.Dec.{eqb}
+use Rattle.meaning.specs.Meaning.{Literal, pos, neg}
+
+-- The literal that a number stands for.
+unfoldable pub literalOf : ℕ → Literal
+literalOf x = elim (eqb (x % 2) 0) [ true ↦ pos (x / 2) | false ↦ neg (x / 2) ]
+
+-- The number that stands for a literal.
+unfoldable pub codeOf : Literal → ℕ
+codeOf (pos v) = 2 * v
+codeOf (neg v) = 2 * v + 1

@@ -1,0 +1,56 @@
+-- `text::positive` meets its contract: the first digit decides whether it can be one, the others are read from there.
+-- Assumes nothing.
+use native.Mathlib.Omega.{arith}
+use Rattle.text.proofs.Numbers.{positive-past, positive-bad, positive-on}
+use borrow.Author.Needs.{needs}
+use Rattle.text.proofs.positive.Statement.{statement}
+use Rattle.text.proofs.positive.Tie as tie
+
+returns : tie.Need-returns
+returns c = positive-past _ _ (c .if1 .taken)
+
+shared-slice-read-b : tie.Need-shared-slice-read-b
+shared-slice-read-b c = search needs
+
+word-end-requires : tie.Need-word-end-requires
+word-end-requires c κs = search needs
+
+returns-2 : tie.Need-returns-2
+returns-2 c = positive-bad _ _ _ (c .before .before .before .if1 .left) (λ h. absurd (omega (arith, c .before .if2 .taken))) (c .word-end .ensures)
+
+word-end-requires-2 : tie.Need-word-end-requires-2
+word-end-requires-2 c κs = search needs
+
+returns-3 : tie.Need-returns-3
+returns-3 c = positive-bad _ _ _ (c .before .before .before .before .if1 .left) (λ h. c .before .if3 .taken) (c .word-end2 .ensures)
+
+add-digits-from : tie.Need-add-digits-from
+add-digits-from c = search needs
+
+sub-wide : tie.Need-sub-wide
+sub-wide c = search needs
+
+wide-requires : tie.Need-wide-requires
+wide-requires c κs = search needs
+
+digits-from-requires : tie.Need-digits-from-requires
+digits-from-requires c κs = omega (arith, c .wide .ensures)
+
+returns-4 : tie.Need-returns-4
+returns-4 c = positive-on _ _ _ _ (c .before .before .before .before .before .if1 .left) (c .before .before .before .if2 .left) (c .before .before .if3 .left) (rw (c .before .wide .ensures) at (c .digits-from .ensures))
+
+pub positive-spec : {M : Type 1} → statement M
+positive-spec =
+    tie.close
+    (tie.spec
+    returns
+    shared-slice-read-b
+    word-end-requires
+    returns-2
+    word-end-requires-2
+    returns-3
+    add-digits-from
+    sub-wide
+    wide-requires
+    digits-from-requires
+    returns-4)

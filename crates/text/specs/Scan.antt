@@ -1,0 +1,81 @@
+-- What the functions of this crate find at a place of a text, in terms of document 01's definitions (rules' Text).
+use Prim.Native.Nat.{ℕ, suc, _+_, min}
+use mathlib.Core.Path.{_≡_}
+use mathlib.Core.Bool.{Bool, true, false, _&&_}
+use mathlib.Core.List.{List, [], _∷_}
+use mathlib.Core.Option.{Option, none, some}
+use lib.ListN.{length, drop}
+use Rattle.rules.specs.Text.{isBlank, isDigit, digits, positive, Token, nought, plus, minus, letterD, other, token, word}
+use Rattle.text.specs.declared.Token.{Token as Scanned}
+use Rattle.text.specs.declared.Token.the-variants.{Nought, Plus, Minus, LetterD, Other, Nothing}
+
+-- A number stays at this size if it is larger.
+abbrev pub most : ℕ
+most = 1_000_000_000_000_000_000
+
+-- How many blanks a text begins with.
+unfoldable pub blanks : List ℕ → ℕ
+unfolding isBlank
+blanks [] = 0
+blanks (b ∷ s) = elim (isBlank b) [ true ↦ suc (blanks s) | false ↦ 0 ]
+
+-- A word ends where the text goes on so.
+unfoldable pub endsWord : List ℕ → Bool
+unfolding isBlank
+endsWord [] = true
+endsWord (b ∷ s) = isBlank b
+
+-- A number as this crate gives it: 0 for none, and never above `most`.
+abbrev pub sized : Option ℕ → ℕ
+sized none = 0
+sized (some n) = min n most
+
+-- The number whose digits say v up to the place `at`, where the text goes on with s; and the place behind the word.
+pub record Numbered (v at : ℕ) (s : List ℕ) (value next : ℕ) : Type 0 where
+  pub is-value : value ≡ sized (digits v (word s))
+  pub is-next : next ≡ at + length (word s)
+
+-- A token as this crate gives it.
+abbrev pub capped : Token → Scanned
+capped nought = Nought
+capped (plus n) = Plus (min n most)
+capped (minus n) = Minus (min n most)
+capped letterD = LetterD
+capped other = Other
+
+-- The token of a word; an empty word is the end of the text.
+unfoldable pub tokenOf : List ℕ → Scanned
+unfolding token
+tokenOf [] = Nothing
+tokenOf (b ∷ w) = capped (token (b ∷ w))
+
+-- The word that the text s begins with, at the place `at`, as a positive number; and the place behind it.
+pub record Positive (at : ℕ) (s : List ℕ) (value next : ℕ) : Type 0 where
+  pub is-value : value ≡ sized (positive (word s))
+  pub is-next : next ≡ at + length (word s)
+
+-- The word that the text s begins with, at the place `at`, as a token; and the place behind it.
+pub record Wording (at : ℕ) (s : List ℕ) (t : Scanned) (next : ℕ) : Type 0 where
+  pub is-token : t ≡ tokenOf (word s)
+  pub is-next : next ≡ at + length (word s)
+
+-- The first token of the text s, which begins at the place `at`, and the place behind it.
+pub record Scans (at : ℕ) (s : List ℕ) (t : Scanned) (next : ℕ) : Type 0 where
+  pub is-token : t ≡ tokenOf (word (drop (blanks s) s))
+  pub is-next : next ≡ at + (blanks s + length (word (drop (blanks s) s)))
+
+-- The byte is a token by itself.
+abbrev pub OneByte : ℕ → Scanned → Type 0
+OneByte b Nought = b ≡ 48
+OneByte b (Plus n) = ⊥
+OneByte b (Minus n) = ⊥
+OneByte b LetterD = b ≡ 100
+OneByte b Other = ⊥
+OneByte b Nothing = ⊥
+
+-- The byte begins neither a negative number nor a token of one byte, and is no blank.
+pub record Plain (b : ℕ) : Type 0 where
+  pub no-blank : isBlank b ≡ false
+  pub no-nought : b ≡ 48 → ⊥
+  pub no-letter : b ≡ 100 → ⊥
+  pub no-sign : b ≡ 45 → ⊥

@@ -1,0 +1,233 @@
+// From bytes to tokens: blanks, numbers, and the token at a place of a text, by document 01, section 2.
+//
+// A number never wraps. Above 10^18, far beyond every limit of the document, it stays at 10^18, and a law in
+// proofs/Limits.antt says that no test of a limit can tell the difference. What a token may be used for is not decided here.
+//
+// Every loop here moves one byte on with each turn, so the turns are the bytes passed: `next - at`.
+ghost use mathlib.Core.Path.{_≡_};
+ghost use mathlib.Core.Bool.{false};
+ghost use Prim.Native.Nat.{ℕ, _+_, _*_, _<_, _≤_};
+ghost use lib.ListN.{length, drop, getD};
+ghost use Rattle.rules.specs.Text.{isBlank, isDigit, word};
+ghost use Rattle.text.specs.Scan.{most, blanks, endsWord, Numbered, Positive, OneByte, Plain, Wording, Scans};
+
+// A token. A number is given by its size, at most 10^18. `Nothing` is the end of the text.
+pub enum Token {
+    Nought,
+    Plus(u64),
+    Minus(u64),
+    LetterD,
+    Other,
+    Nothing,
+}
+
+// A token and the place behind it.
+pub struct Scanned {
+    pub token: Token,
+    pub next: usize,
+}
+
+// A number, or 0 for none, and the place behind the word.
+pub struct Number {
+    pub value: u64,
+    pub next: usize,
+}
+
+fn wide(x: u8) -> u64
+    ensures { λ r. ⌜ r ≡ x ⌝ }
+{
+    x as u64
+}
+
+pub fn is_blank(b: u8) -> bool
+    ensures { λ r. ⌜ r ≡ isBlank b ⌝ }
+{
+    if b == 32 {
+        return true;
+    }
+    if b == 9 {
+        return true;
+    }
+    if b == 13 {
+        return true;
+    }
+    b == 10
+}
+
+// The first place from `at` on that has no blank.
+pub fn skip_blanks(s: &[u8], at: usize) -> usize
+    ensures { λ r. ⌜ r ≡ at + blanks (drop at (now (s .entry))) ⌝ }
+{
+    let mut i = at;
+    while i < s.len() {
+        if !is_blank(s[i]) {
+            return i;
+        }
+        i += 1;
+    }
+    i
+}
+
+// The place behind the word that goes on at `at`.
+fn word_end(s: &[u8], at: usize) -> usize
+    ensures { λ r. ⌜ r ≡ at + length (word (drop at (now (s .entry)))) ⌝ }
+{
+    let mut i = at;
+    while i < s.len() {
+        if is_blank(s[i]) {
+            return i;
+        }
+        i += 1;
+    }
+    i
+}
+
+// Whether a word that reaches up to `at` ends there.
+fn ends_word(s: &[u8], at: usize) -> bool
+    ensures { λ r. ⌜ r ≡ endsWord (drop at (now (s .entry))) ⌝ }
+{
+    if s.len() <= at {
+        return true;
+    }
+    is_blank(s[at])
+}
+
+// A number v whose digits end before `at`: it is one only if the word ends there, too.
+fn finish(s: &[u8], at: usize, v: u64) -> Number
+    requires { ⌜ v ≤ most ⌝ }
+    requires { ⌜ (at < length (now s) → isDigit (getD (now s) at 0) ≡ false) ⌝ }
+    ensures { λ r. ⌜ Numbered v at (drop at (now (s .entry))) (r .value) (r .next) ⌝ }
+{
+    if ends_word(s, at) {
+        return Number { value: v, next: at };
+    }
+    Number { value: 0, next: word_end(s, at) }
+}
+
+// A number that is above `most` already, and goes on at `from`.
+fn long(s: &[u8], from: usize) -> Number
+    ensures { λ r. ⌜ Numbered most from (drop from (now (s .entry))) (r .value) (r .next) ⌝ }
+{
+    let mut i = from;
+    while i < s.len() {
+        let b = s[i];
+        if b < 48 {
+            return finish(s, i, 1000000000000000000);
+        }
+        if 57 < b {
+            return finish(s, i, 1000000000000000000);
+        }
+        i += 1;
+    }
+    Number { value: 1000000000000000000, next: i }
+}
+
+// A number that is `first` so far, and goes on at `from`.
+fn digits_from(s: &[u8], from: usize, first: u64) -> Number
+    requires { ⌜ first ≤ most ⌝ }
+    ensures { λ r. ⌜ Numbered first from (drop from (now (s .entry))) (r .value) (r .next) ⌝ }
+{
+    let mut v = first;
+    let mut i = from;
+    while i < s.len() {
+        let b = s[i];
+        if b < 48 {
+            return finish(s, i, v);
+        }
+        if 57 < b {
+            return finish(s, i, v);
+        }
+        v = v * 10 + wide(b - 48);
+        i += 1;
+        if 1000000000000000000 < v {
+            return long(s, i);
+        }
+    }
+    Number { value: v, next: i }
+}
+
+// The word at `at` as a positive number: digits without a leading zero.
+fn positive(s: &[u8], at: usize) -> Number
+    ensures { λ r. ⌜ Positive at (drop at (now (s .entry))) (r .value) (r .next) ⌝ }
+{
+    if s.len() <= at {
+        return Number { value: 0, next: at };
+    }
+    let b = s[at];
+    if b < 49 {
+        return Number { value: 0, next: word_end(s, at) };
+    }
+    if 57 < b {
+        return Number { value: 0, next: word_end(s, at) };
+    }
+    digits_from(s, at + 1, wide(b - 48))
+}
+
+// A token of one byte at `at`, unless the word goes on.
+fn one_byte(s: &[u8], at: usize, t: Token) -> Scanned
+    requires { ⌜ (at < length (now s)) × OneByte (getD (now s) at 0) t ⌝ }
+    ensures { λ r. ⌜ Wording at (drop at (now (s .entry))) (r .token) (r .next) ⌝ }
+{
+    let next = at + 1;
+    if ends_word(s, next) {
+        return Scanned { token: t, next: next };
+    }
+    Scanned { token: Token::Other, next: word_end(s, next) }
+}
+
+// A negative number, whose sign stands at `at`.
+fn negative(s: &[u8], at: usize) -> Scanned
+    requires { ⌜ (at < length (now s)) × (getD (now s) at 0 ≡ 45) ⌝ }
+    ensures { λ r. ⌜ Wording at (drop at (now (s .entry))) (r .token) (r .next) ⌝ }
+{
+    let n = positive(s, at + 1);
+    let v = n.value;
+    let next = n.next;
+    if v == 0 {
+        return Scanned { token: Token::Other, next: next };
+    }
+    Scanned { token: Token::Minus(v), next: next }
+}
+
+// A positive number, or another word, at `at`.
+fn plain(s: &[u8], at: usize) -> Scanned
+    requires { ⌜ (at < length (now s)) × Plain (getD (now s) at 0) ⌝ }
+    ensures { λ r. ⌜ Wording at (drop at (now (s .entry))) (r .token) (r .next) ⌝ }
+{
+    let n = positive(s, at);
+    let v = n.value;
+    let next = n.next;
+    if v == 0 {
+        return Scanned { token: Token::Other, next: next };
+    }
+    Scanned { token: Token::Plus(v), next: next }
+}
+
+// The word at `at`, where there is no blank, as a token.
+fn word_at(s: &[u8], at: usize) -> Scanned
+    requires { ⌜ (at < length (now s)) × (isBlank (getD (now s) at 0) ≡ false) ⌝ }
+    ensures { λ r. ⌜ Wording at (drop at (now (s .entry))) (r .token) (r .next) ⌝ }
+{
+    let b = s[at];
+    if b == 48 {
+        return one_byte(s, at, Token::Nought);
+    }
+    if b == 100 {
+        return one_byte(s, at, Token::LetterD);
+    }
+    if b == 45 {
+        return negative(s, at);
+    }
+    plain(s, at)
+}
+
+// The first token from `at` on, and the place behind it.
+pub fn token_at(s: &[u8], at: usize) -> Scanned
+    ensures { λ r. ⌜ Scans at (drop at (now (s .entry))) (r .token) (r .next) ⌝ }
+{
+    let p = skip_blanks(s, at);
+    if s.len() <= p {
+        return Scanned { token: Token::Nothing, next: p };
+    }
+    word_at(s, p)
+}
