@@ -1,0 +1,3 @@
+-- The laws of the crate, by the module of src/ whose functions they are for.
+pub mod Openings
+pub mod Headers
