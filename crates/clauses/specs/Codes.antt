@@ -1,5 +1,5 @@
 -- Literals as numbers: 2v says that variable v is true, 2v + 1 that it is false.
-use Prim.Native.Nat.{ℕ, _+_, _*_, _/_, _%_}
+use Prim.Native.Nat.{ℕ, _+_, _-_, _*_, _/_, _%_}
 use mathlib.Core.Bool.{Bool, true, false}
 use lib.Dec.{eqb}
 use Rattle.meaning.specs.Meaning.{Literal, pos, neg}
@@ -12,3 +12,7 @@ literalOf x = elim (eqb (x % 2) 0) [ true ↦ pos (x / 2) | false ↦ neg (x / 2
 unfoldable pub codeOf : Literal → ℕ
 codeOf (pos v) = 2 * v
 codeOf (neg v) = 2 * v + 1
+
+-- The number that stands for the opposite literal.
+unfoldable pub oppositeCode : ℕ → ℕ
+oppositeCode x = elim (eqb (x % 2) 0) [ true ↦ x + 1 | false ↦ x - 1 ]

@@ -1,3 +1,5 @@
--- The definitions of the crate: literals as numbers, and the store of live clauses.
+-- The definitions of the crate: literals as numbers, the store of live clauses, and what its functions promise.
 pub mod Codes
 pub mod Store
+pub mod Finding
+pub mod Moving

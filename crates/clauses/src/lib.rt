@@ -1,1 +1,251 @@
-// The store of live clauses.
+// The store of live clauses, in two slices that the caller lends: how a clause is added, found by its id and deleted, and how
+// deleted clauses give their room back. specs/Store.antt says which live clauses two slices hold. Nothing is promised of
+// slices that hold no store; that what a function leaves is a store again is said by laws in proofs/, not by its contract.
+ghost use mathlib.Core.Path.{_≡_};
+ghost use Prim.Native.Nat.{ℕ, _+_, _-_, _*_, _%_, _<_, _≤_, _^_};
+ghost use lib.ListN.{length, getD, set};
+ghost use Rattle.clauses.specs.Codes.{oppositeCode};
+ghost use Rattle.clauses.specs.Store.{idAt};
+ghost use Rattle.clauses.specs.Finding.{Searchable, FoundIn, turnsOf, Halvings, AtMostHalvings, reachedBy};
+ghost use Rattle.clauses.specs.Moving.{Stored, Moved, Movable, OneMoved, AllMoved};
+
+// The place of a live clause, or that there is none; and the turns that the search took.
+pub enum Found {
+    At { place: usize, turns: u64 },
+    Nowhere { turns: u64 },
+}
+
+// How many clauses and literals there are after the deleted ones went, and the turns that this took.
+pub struct Compacted {
+    pub n: usize,
+    pub used: usize,
+    pub turns: u64,
+}
+
+// A number of a head, as an index.
+pub fn index(x: u64) -> usize
+    ensures { λ r. ⌜ r ≡ x ⌝ }
+{
+    x as usize
+}
+
+// A number of 32 bits, as an index.
+pub fn cell(x: u32) -> usize
+    ensures { λ r. ⌜ r ≡ x ⌝ }
+{
+    x as usize
+}
+
+// An index, as a number of a head.
+pub fn count(x: usize) -> u64
+    ensures { λ r. ⌜ r ≡ x ⌝ }
+{
+    x as u64
+}
+
+// The opposite of a literal.
+pub fn opposite(l: u32) -> u32
+    requires { ⌜ l < 2 ^ 31 ⌝ }
+    ensures { λ r. ⌜ r ≡ oppositeCode l ⌝ }
+{
+    if l % 2 == 0 { l + 1 } else { l - 1 }
+}
+
+// 1 if `head` has an id of at most `id`, else 0. The difference stands for the test, so that no branch is taken on it.
+fn reached(id: u64, head: u64) -> usize
+    requires { ⌜ id < 2 ^ 60 ⌝ }
+    ensures { λ r. ⌜ r ≡ reachedBy id head ⌝ }
+{
+    let difference = 9223372036854775808 + id - head / 2;
+    index(difference / 9223372036854775808)
+}
+
+// The place of the live clause `id` among the first `n`, by halving.
+pub fn find(heads: &[u64], n: usize, id: u64) -> Found
+    requires { ⌜ Searchable (now heads) n id ⌝ }
+    ensures place { λ r. ⌜ FoundIn (now (heads .entry)) n id r ⌝ }
+    ensures turns { λ r. ⌜ Halvings n (turnsOf r) ⌝ }
+{
+    if n == 0 {
+        return Found::Nowhere { turns: 0 };
+    }
+    let mut base = 0;
+    let mut span = n;
+    let mut turns: u64 = 0;
+    while 1 < span {
+        let half = span / 2;
+        let middle = base + half;
+        base = base + half * reached(id, heads[2 * middle]);
+        span = span - half;
+        turns += 1;
+    }
+    if heads[2 * base] == 2 * id {
+        return Found::At {
+            place: base,
+            turns: turns,
+        };
+    }
+    Found::Nowhere { turns: turns }
+}
+
+// Where the guess for `id` stands among so many.
+fn slot(id: u64, slots: usize) -> usize
+    requires { ⌜ 0 < slots ⌝ }
+    ensures { λ r. ⌜ r < slots ⌝ }
+{
+    index(id % count(slots))
+}
+
+// The guess for `id`; any place will do.
+fn guessed(guess: &[u32], id: u64) -> usize {
+    if guess.len() == 0 {
+        return 0;
+    }
+    let at = slot(id, guess.len());
+    cell(guess[at])
+}
+
+// As `find`, with a guess first, which may be wrong.
+pub fn lookup(heads: &[u64], n: usize, guess: &[u32], id: u64) -> Found
+    requires { ⌜ Searchable (now heads) n id ⌝ }
+    ensures place { λ r. ⌜ FoundIn (now (heads .entry)) n id r ⌝ }
+    ensures turns { λ r. ⌜ AtMostHalvings n (turnsOf r) ⌝ }
+{
+    let place = guessed(guess, id);
+    if place < n {
+        if heads[2 * place] == 2 * id {
+            return Found::At {
+                place: place,
+                turns: 0,
+            };
+        }
+    }
+    find(heads, n, id)
+}
+
+fn narrow(x: usize) -> u32
+    requires { ⌜ x < 2 ^ 32 ⌝ }
+    ensures { λ r. ⌜ r ≡ x ⌝ }
+{
+    x as u32
+}
+
+// The next guess for `id` is `place`, if there is room for a guess.
+pub fn note(guess: &mut [u32], id: u64, place: usize)
+    ensures { λ _. ⌜ length (now (guess .exit)) ≡ length (now (guess .entry)) ⌝ }
+{
+    if guess.len() == 0 {
+        return;
+    }
+    if 4294967295 < place {
+        return;
+    }
+    let at = slot(id, guess.len());
+    guess[at] = narrow(place);
+}
+
+// The next guess for each of the first `n` clauses is its place.
+pub fn note_all(heads: &[u64], n: usize, guess: &mut [u32]) -> u64
+    requires { ⌜ 2 * n + 1 < length (now heads) ⌝ }
+    ensures turns { λ r. ⌜ r ≡ n ⌝ }
+    ensures long { λ _. ⌜ length (now (guess .exit)) ≡ length (now (guess .entry)) ⌝ }
+{
+    let mut place = 0;
+    let mut noted: u64 = 0;
+    while place < n {
+        note(guess, heads[2 * place] / 2, place);
+        place += 1;
+        noted += 1;
+    }
+    noted
+}
+
+// The head of the `n`-th clause, and where its literals end.
+fn write_head(heads: &mut [u64], n: usize, head: u64, end: usize)
+    requires { ⌜ 2 * n + 3 < length (now heads) ⌝ }
+    ensures { λ _. ⌜ now (heads .exit) ≡ set (set (now (heads .entry)) (2 * n) head) (2 * n + 3) end ⌝ }
+{
+    heads[2 * n] = head;
+    heads[2 * n + 3] = count(end);
+}
+
+// The clause that ends at `end` becomes the `n`-th, under `id`.
+pub fn append(heads: &mut [u64], n: usize, id: u64, end: usize)
+    requires { ⌜ (2 * n + 3 < length (now heads)) × (id < 2 ^ 60) ⌝ }
+    ensures { λ _. ⌜ now (heads .exit) ≡ set (set (now (heads .entry)) (2 * n) (2 * id)) (2 * n + 3) end ⌝ }
+{
+    write_head(heads, n, 2 * id, end);
+}
+
+// The `k`-th clause, which is live, is deleted.
+pub fn delete(heads: &mut [u64], k: usize)
+    requires { ⌜ (2 * k < length (now heads)) × (idAt (now heads) k % 2 ≡ 0) ⌝ }
+    ensures { λ _. ⌜ now (heads .exit) ≡ set (now (heads .entry)) (2 * k) (idAt (now (heads .entry)) k + 1) ⌝ }
+{
+    heads[2 * k] = heads[2 * k] + 1;
+}
+
+// The literals from `from` up to `end` move down to `to`. Returns the turns.
+fn shift(lits: &mut [u32], from: usize, end: usize, to: usize) -> u64
+    requires { ⌜ (to ≤ from) × ((from ≤ end) × (end ≤ length (now lits))) ⌝ }
+    ensures { λ r. ⌜ Moved (now (lits .entry)) from end to (now (lits .exit)) × (r ≡ end - from) ⌝ }
+{
+    let mut source = from;
+    let mut target = to;
+    let mut moved: u64 = 0;
+    while source < end {
+        lits[target] = lits[source];
+        source += 1;
+        target += 1;
+        moved += 1;
+    }
+    moved
+}
+
+// The `k`-th clause moves down behind those that stay, if it is live.
+fn keep(heads: &mut [u64], lits: &mut [u32], k: usize, done: Compacted) -> Compacted
+    requires { ⌜ Movable (now heads) (now lits) k (done .n) (done .used) (done .turns) ⌝ }
+    ensures { λ r. ⌜ OneMoved (now (heads .entry)) (now (lits .entry)) k done (now (heads .exit)) (now (lits .exit)) r ⌝ }
+{
+    let head = heads[2 * k];
+    if head % 2 != 0 {
+        return done;
+    }
+    let from = index(heads[2 * k + 1]);
+    let end = index(heads[2 * (k + 1) + 1]);
+    let moved = shift(lits, from, end, done.used);
+    let used = done.used + (end - from);
+    write_head(heads, done.n, head, used);
+    let next = done.n + 1;
+    let turns = done.turns + moved;
+    Compacted {
+        n: next,
+        used: used,
+        turns: turns,
+    }
+}
+
+// The live ones of the first `n` clauses move down, in order, and the deleted ones go.
+pub fn compact(heads: &mut [u64], lits: &mut [u32], n: usize) -> Compacted
+    requires { ⌜ Stored (now heads) (now lits) n ⌝ }
+    ensures { λ r. ⌜ AllMoved (now (heads .entry)) (now (lits .entry)) n (now (heads .exit)) (now (lits .exit)) r ⌝ }
+{
+    let mut done = Compacted {
+        n: 0,
+        used: 0,
+        turns: 0,
+    };
+    let mut k = 0;
+    let mut passed: u64 = 0;
+    while k < n {
+        done = keep(heads, lits, k, done);
+        k += 1;
+        passed += 1;
+    }
+    let turns = done.turns + passed;
+    Compacted {
+        n: done.n,
+        used: done.used,
+        turns: turns,
+    }
+}

@@ -1,3 +1,5 @@
 -- The laws of the crate, by the module of src/ whose functions they are for.
 pub mod Openings
 pub mod Headers
+pub mod Bodies
+pub mod Fillings

@@ -1,6 +1,6 @@
 -- The run over a proof's steps: a step takes tokens, so the fuel does not matter; an unreadable step is found before it is
 -- judged; and every state that a run comes to is orderly. Assumes nothing.
-use Prim.Native.Nat.{ℕ, zero, suc, _<_, _≤_}
+use Prim.Native.Nat.{ℕ, zero, suc, _+_, _<_, _≤_}
 use mathlib.Core.Path.{_≡_, refl, sym, ap, _∙_}
 use mathlib.Core.Bool.{Bool, true, false}
 use mathlib.Core.List.{List, [], _∷_}
@@ -19,21 +19,26 @@ use Rattle.rules.specs.Answers.{Ending, endsBadStep, run, start}
 use Rattle.rules.proofs.Options.{none-some, some-inj, bound, Bound}
 use Rattle.rules.proofs.Ids.{Orderly, OrderlyJudged, start-orderly, judge-orderly}
 
-pub items-shorter : {A : Type 0} (item : Token → Option A) (ts : List Token) (r : List A × List Token) → items item ts ≡ some r → length (r .1) < length ts
+-- Items and the 0 behind them take a token each.
+pub items-count : {A : Type 0} (item : Token → Option A) (ts : List Token) (r : List A × List Token) → items item ts ≡ some r
+    → length (r .1) + suc (length (r .0)) ≡ length ts
 unfolding items
-items-shorter item [] r e = none-some e
-items-shorter {A} item (t ∷ ts) r e =
+items-count item [] r e = none-some e
+items-count {A} item (t ∷ ts) r e =
     bool-cases (isNought t)
     (λ y. let s : some ([], ts) ≡ some r = (rw (y, items) at e) in let q : ([], ts) ≡ r = cc in rw (← q) (omega arith))
-    (λ n. go (items-shorter item ts) (rw (n, items) at e))
+    (λ n. go (items-count item ts) (rw (n, items) at e))
   where
-    go : ((r : List A × List Token) → items item ts ≡ some r → length (r .1) < length ts)
-        → (item t >>= (λ x. items item ts >>= (λ (xs, rest). some (x ∷ xs, rest)))) ≡ some r → length (r .1) < suc (length ts)
+    go : ((r : List A × List Token) → items item ts ≡ some r → length (r .1) + suc (length (r .0)) ≡ length ts)
+        → (item t >>= (λ x. items item ts >>= (λ (xs, rest). some (x ∷ xs, rest)))) ≡ some r → length (r .1) + suc (length (r .0)) ≡ suc (length ts)
     go ih s =
         let b = bound (item t) _ r s in
         let d = bound (items item ts) _ r (b .goes-on) in
         let q : (b .value ∷ d .value .0, d .value .1) ≡ r = cc in
         rw (← q) (omega (arith, ih (d .value) (d .is-value)))
+
+pub items-shorter : {A : Type 0} (item : Token → Option A) (ts : List Token) (r : List A × List Token) → items item ts ≡ some r → length (r .1) < length ts
+items-shorter item ts r e = omega (arith, items-count item ts r e)
 
 body-shorter : (n : ℕ) (ts : List Token) (r : Step × List Token) → stepBody n ts ≡ some r → length (r .1) < length ts
 unfolding stepBody
