@@ -135,8 +135,8 @@ pub placed-more : (before new lits : List ℕ) (used w x : ℕ) → used ≤ len
 placed-more before new lits used w x fit p h =
     let n : length (take used before ++ new) ≡ w = rw (length-append, length-take-le used before fit) (sym (p .count)) in
     let put : set (take used before ++ (new ++ drop w before)) w x ≡ take used before ++ ((new ++ (x ∷ [])) ++ drop (w + 1) before) =
-        rw (add-one w, drop-cons before w 0 h, ← append-assoc (take used before) new (getD before w 0 ∷ drop (suc w) before))
-        (set-at (take used before ++ new) (getD before w 0) (drop (suc w) before) x w n ∙ simp append-assoc) in
+    rw (add-one w, drop-cons before w 0 h, ← append-assoc (take used before) new (getD before w 0 ∷ drop (suc w) before))
+    (set-at (take used before ++ new) (getD before w 0) (drop (suc w) before) x w n ∙ simp append-assoc) in
     record {
       count = rw length-append (omega (arith, p .count));
       room = omega arith;
@@ -177,8 +177,8 @@ module _ (v : ℕ) (small : v < most) (s : List ℕ) (at : ℕ) (before : List �
         fit = r .fit;
         below = below-more (2 * v + 2) (r .new) x (r .below) (say .2);
         left = r .left ∙ ap (λ (ts : List Token). ahead (map literalOf (r .new)) (items (literal v) ts)) (next .is)
-        ∙ ahead-more (literal v) (next .tok) (tokens (drop n s)) (map literalOf (r .new)) (literalOf x) (say .0) (say .1)
-        ∙ ap (λ (l : Clause). ahead l (items (literal v) (tokens (drop n s)))) (sym (map-more (r .new) x));
+            ∙ ahead-more (literal v) (next .tok) (tokens (drop n s)) (map literalOf (r .new)) (literalOf x) (say .0) (say .1)
+            ∙ ap (λ (l : Clause). ahead l (items (literal v) (tokens (drop n s)))) (sym (map-more (r .new) x));
         few = rw length-append (omega (arith, r .few, ap length (next .is)));
         later = omega (arith, r .later, next .later);
         within = next .within;
@@ -193,7 +193,7 @@ module _ (v : ℕ) (small : v < most) (s : List ℕ) (at : ℕ) (before : List �
         placed = r .placed;
         below = r .below;
         is = r .left ∙ ap (λ (ts : List Token). ahead (map literalOf (r .new)) (items (literal v) ts)) (next .is)
-        ∙ ahead-end (literal v) (next .tok) (tokens (drop n s)) (map literalOf (r .new)) say;
+            ∙ ahead-end (literal v) (next .tok) (tokens (drop n s)) (map literalOf (r .new)) say;
         later = omega (arith, r .later, next .later);
         within = next .within;
       }
@@ -220,7 +220,7 @@ module _ (v : ℕ) (small : v < most) (s : List ℕ) (at : ℕ) (before : List �
   no-clause Nothing q e = nothing-left q
 
   pub reading-bad : Wrong ≡ itemOf v t → ClauseBad v s at before used lits i w
-  reading-bad e = record { new = r .new; placed = r .placed; is = no-clause t refl e; later = r .later; within = r .within }
+  reading-bad e = record { new = r .new; placed = r .placed; is = no-clause t refl e; few = omega (arith, r .few); later = r .later; within = r .within }
 
   pub reading-long : (x : ℕ) → Lit x ≡ itemOf v t → length lits ≤ w → ClauseLong v s at before used lits i w
   reading-long x e full =
@@ -229,6 +229,7 @@ module _ (v : ℕ) (small : v < most) (s : List ℕ) (at : ℕ) (before : List �
         new = r .new;
         placed = r .placed;
         short = omega (arith, r .same, r .placed .count, r .few, ap length (next .is));
+        few = omega (arith, r .few);
         later = r .later;
         within = r .within;
       }

@@ -60,10 +60,10 @@ module _ (before : List ℕ) (used : ℕ) (new after : List ℕ) (end : ℕ) (fi
       let place : i ≡ length (take used before) + (i - used) = omega (arith, front-long) in
       let inside : i - used < length new = omega (arith, p .count) in
       let is : getD after i 0 ≡ getD new (i - used) 0 =
-          ap (λ (l : List ℕ). getD l i 0) (p .stored)
-          ∙ ap (λ (k : ℕ). getD (take used before ++ (new ++ drop end before)) k 0) place
-          ∙ getD-append-add (take used before) (new ++ drop end before) (i - used) 0
-          ∙ List·getD-append new (drop end before) 0 (i - used) inside in
+      ap (λ (l : List ℕ). getD l i 0) (p .stored)
+      ∙ ap (λ (k : ℕ). getD (take used before ++ (new ++ drop end before)) k 0) place
+      ∙ getD-append-add (take used before) (new ++ drop end before) (i - used) 0
+      ∙ List·getD-append new (drop end before) 0 (i - used) inside in
       rw is (all-below m new (i - used) a inside))
 
 -- Clauses with their ids
@@ -148,6 +148,7 @@ module _ (v c : ℕ) (s : List ℕ) (at : ℕ) (heads₀ lits₀ heads lits : Li
         is = f .left ∙ rw no-more (afore-done v (tokens (drop i s)) (f .clauses));
         holds = rw (← all) (f .holds);
         below = f .below;
+        few = omega (arith, f .few);
         later = f .later;
         within = f .within;
       }
@@ -156,20 +157,22 @@ module _ (v c : ℕ) (s : List ℕ) (at : ℕ) (heads₀ lits₀ heads lits : Li
     one-more : c - k ≡ suc (c - (k + 1))
     one-more = omega arith
 
-    pub filling-bad : (r : ClauseRead) → ReadsClause v s i lits used lits′ r → r ≡ Unreadable next end → BodyBad v c s at next
+    pub filling-bad : (r : ClauseRead) → ReadsClause v s i lits used lits′ r → r ≡ Unreadable next end → BodyBad v c s at next end k
     filling-bad r h e =
         let b : ClauseBad v s i lits used lits′ next end = subst (ClauseCase v s i lits used lits′) e (h .case) in
         record {
           is = f .left ∙ rw one-more (afore-bad v (c - (k + 1)) (tokens (drop i s)) (f .clauses) (b .is));
+          few = omega (arith, f .few, b .few, b .placed .count);
           later = omega (arith, f .later, b .later);
           within = b .within;
         }
 
-    pub filling-long : (r : ClauseRead) → ReadsClause v s i lits used lits′ r → r ≡ TooShort next end → BodyLong s at heads₀ lits₀ next
+    pub filling-long : (r : ClauseRead) → ReadsClause v s i lits used lits′ r → r ≡ TooShort next end → BodyLong s at heads₀ lits₀ next end k
     filling-long r h e =
         let b : ClauseLong v s i lits used lits′ next end = subst (ClauseCase v s i lits used lits′) e (h .case) in
         record {
           short = inl (omega (arith, b .short, f .few, f .lits-long));
+          few = omega (arith, f .few, b .few, b .placed .count);
           later = omega (arith, f .later, b .later);
           within = b .within;
         }
@@ -187,11 +190,12 @@ module _ (v c : ℕ) (s : List ℕ) (at : ℕ) (heads₀ lits₀ heads lits : Li
           let count = items-count (literal v) (tokens (drop i s)) (map literalOf (done .new), tokens (drop next s)) (done .is) in
           omega (arith, count, length-map (done .new) literalOf)
 
-      pub filling-full : (heads′ : List ℕ) (b : Bool) → Closes heads k end heads′ b → b ≡ false → BodyLong s at heads₀ lits₀ next
+      pub filling-full : (heads′ : List ℕ) (b : Bool) → Closes heads k end heads′ b → b ≡ false → BodyLong s at heads₀ lits₀ next end k
       filling-full heads′ b cl q =
           let full : CloseCase heads k end heads′ false = subst (CloseCase heads k end heads′) q (cl .case) in
           record {
             short = inr (omega (arith, full .0, f .few, f .heads-long, fewer));
+            few = omega (arith, f .few, fewer, done .placed .count);
             later = omega (arith, f .later, done .later);
             within = done .within;
           }
@@ -213,9 +217,9 @@ module _ (v c : ℕ) (s : List ℕ) (at : ℕ) (heads₀ lits₀ heads lits : Li
           let held = holds-append heads lits′ k used k (numbered 0 (f .clauses)) holds-lits (k + 1) end (omega arith) (omega (arith, done .placed .count)) (omega (arith, long, done .placed .room)) (closed .0) in
           let id : suc (0 + length (f .clauses)) ≡ k + 1 = omega (arith, f .many) in
           let live : numbered 0 (f .clauses) ++ ((k + 1, map literalOf (slice used end lits′)) ∷ []) ≡ numbered 0 (f .clauses ++ (clause ∷ [])) =
-              ap (λ (l : List ℕ). numbered 0 (f .clauses) ++ ((k + 1, map literalOf l) ∷ [])) (placed-slice lits used (done .new) lits′ end fit (done .placed))
-              ∙ ap (λ (n : ℕ). numbered 0 (f .clauses) ++ ((n, clause) ∷ [])) (sym id)
-              ∙ sym (numbered-more 0 (f .clauses) clause) in
+          ap (λ (l : List ℕ). numbered 0 (f .clauses) ++ ((k + 1, map literalOf l) ∷ [])) (placed-slice lits used (done .new) lits′ end fit (done .placed))
+          ∙ ap (λ (n : ℕ). numbered 0 (f .clauses) ++ ((n, clause) ∷ [])) (sym id)
+          ∙ sym (numbered-more 0 (f .clauses) clause) in
           record {
             clauses = f .clauses ++ (clause ∷ []);
             many = rw length-append (omega (arith, f .many));

@@ -3,3 +3,5 @@ pub mod Openings
 pub mod Headers
 pub mod Bodies
 pub mod Fillings
+pub mod Greatest
+pub mod Wholes

@@ -1,5 +1,5 @@
 -- What the functions of src/body.rt read, in terms of document 01's definitions (rules' Text and Formula).
-use Prim.Native.Nat.{ℕ, _+_, _*_, _<_, _≤_}
+use Prim.Native.Nat.{ℕ, _+_, _*_, _<_, _≤_, max}
 use mathlib.Core.Path.{_≡_}
 use mathlib.Core.Logic.{_⊎_}
 use mathlib.Core.Bool.{Bool, true, false}
@@ -56,6 +56,7 @@ pub record ClauseBad (v : ℕ) (s : List ℕ) (at : ℕ) (before : List ℕ) (us
   pub new : List ℕ
   pub placed : Placed before used new after end
   pub is : items (literal v) (tokens (drop at s)) ≡ none
+  pub few : length new ≤ length (tokens (drop at s))
   pub later : at ≤ next
   pub within : next ≤ length s
 
@@ -64,6 +65,7 @@ pub record ClauseLong (v : ℕ) (s : List ℕ) (at : ℕ) (before : List ℕ) (u
   pub new : List ℕ
   pub placed : Placed before used new after end
   pub short : length before < used + length (tokens (drop at s))
+  pub few : length new ≤ length (tokens (drop at s))
   pub later : at ≤ next
   pub within : next ≤ length s
 
@@ -90,26 +92,34 @@ pub record BodyDone (v c : ℕ) (s : List ℕ) (at : ℕ) (heads lits : List ℕ
   pub is : readClauses v c (tokens (drop at s)) ≡ some (clauses, tokens (drop next s))
   pub holds : Holds heads lits c used c (numbered 0 clauses)
   pub below : (i : ℕ) → i < used → getD lits i 0 < 2 * v + 2
+  pub few : used + c ≤ length (tokens (drop at s))
   pub later : at ≤ next
   pub within : next ≤ length s
 
 -- The text from `at` on has no so many clauses.
-pub record BodyBad (v c : ℕ) (s : List ℕ) (at next : ℕ) : Type 0 where
+pub record BodyBad (v c : ℕ) (s : List ℕ) (at next used closed : ℕ) : Type 0 where
   pub is : readClauses v c (tokens (drop at s)) ≡ none
+  pub few : used + closed ≤ length (tokens (drop at s))
   pub later : at ≤ next
   pub within : next ≤ length s
 
 -- One of the two parts is shorter than the tokens of the text ask for.
-pub record BodyLong (s : List ℕ) (at : ℕ) (heads lits : List ℕ) (next : ℕ) : Type 0 where
+pub record BodyLong (s : List ℕ) (at : ℕ) (heads lits : List ℕ) (next used closed : ℕ) : Type 0 where
   pub short : (length lits < length (tokens (drop at s))) ⊎ (length heads < 2 * length (tokens (drop at s)) + 2)
+  pub few : used + closed ≤ length (tokens (drop at s))
   pub later : at ≤ next
   pub within : next ≤ length s
 
 -- What reading the clauses came to, by the answer.
 abbrev pub BodyCase : ℕ → ℕ → List ℕ → ℕ → List ℕ → List ℕ → List ℕ → List ℕ → BodyRead → Type 0
 BodyCase v c s at heads₀ lits₀ heads lits (AllDone next used) = BodyDone v c s at heads lits next used
-BodyCase v c s at heads₀ lits₀ heads lits (AllUnreadable next used closed) = BodyBad v c s at next
-BodyCase v c s at heads₀ lits₀ heads lits (AllTooShort next used closed) = BodyLong s at heads₀ lits₀ next
+BodyCase v c s at heads₀ lits₀ heads lits (AllUnreadable next used closed) = BodyBad v c s at next used closed
+BodyCase v c s at heads₀ lits₀ heads lits (AllTooShort next used closed) = BodyLong s at heads₀ lits₀ next used closed
 
 pub record ReadsBody (v c : ℕ) (s : List ℕ) (at : ℕ) (heads₀ lits₀ heads lits : List ℕ) (r : BodyRead) : Type 0 where
   pub case : BodyCase v c s at heads₀ lits₀ heads lits r
+
+-- The greatest number of a list, or 0.
+unfoldable pub greatest : List ℕ → ℕ
+greatest [] = 0
+greatest (x ∷ xs) = max x (greatest xs)

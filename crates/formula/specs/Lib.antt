@@ -1,3 +1,4 @@
 -- The definitions of the crate.
 pub mod Opening
 pub mod Body
+pub mod Reading

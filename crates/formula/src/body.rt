@@ -4,12 +4,12 @@
 // closed, and the bytes passed for the leaves below.
 use text::Token;
 ghost use mathlib.Core.Path.{_≡_};
-ghost use Prim.Native.Nat.{ℕ, _+_, _*_, _<_, _≤_, _^_};
-ghost use lib.ListN.{length, drop, getD, set};
+ghost use Prim.Native.Nat.{ℕ, _+_, _*_, _<_, _≤_, _^_, max};
+ghost use lib.ListN.{length, take, set};
 ghost use mathlib.Core.List.{[]};
 ghost use Rattle.rules.specs.Limits.{maxVariable, maxClauses};
 ghost use Rattle.clauses.specs.Store.{Holds};
-ghost use Rattle.formula.specs.Body.{itemOf, ReadsClause, Closes, ReadsBody};
+ghost use Rattle.formula.specs.Body.{itemOf, ReadsClause, Closes, ReadsBody, greatest};
 
 // One token of a clause: a literal by its code, the 0 at its end, or neither.
 pub enum Item {
@@ -101,9 +101,20 @@ pub fn read_clause(s: &[u8], at: usize, vars: u64, lits: &mut [u32], used: usize
 // Where reading the clauses came to: the place behind the last one, or where it stopped; how many literals were stored, and
 // how many clauses were closed.
 pub enum BodyRead {
-    Done { next: usize, used: usize },
-    Unreadable { next: usize, used: usize, closed: usize },
-    TooShort { next: usize, used: usize, closed: usize },
+    Done {
+        next: usize,
+        used: usize,
+    },
+    Unreadable {
+        next: usize,
+        used: usize,
+        closed: usize,
+    },
+    TooShort {
+        next: usize,
+        used: usize,
+        closed: usize,
+    },
 }
 
 // The clause that ends at `end` becomes the `k`-th, with the id k + 1, if there is room for it.
@@ -119,7 +130,14 @@ fn close(heads: &mut [u64], k: usize, end: usize) -> bool
 }
 
 // So many clauses from `at` on, over variables up to `vars`, into an empty store.
-pub fn read_clauses(s: &[u8], at: usize, vars: u64, many: usize, heads: &mut [u64], lits: &mut [u32]) -> BodyRead
+pub fn read_clauses(
+    s: &[u8],
+    at: usize,
+    vars: u64,
+    many: usize,
+    heads: &mut [u64],
+    lits: &mut [u32],
+) -> BodyRead
     requires { ⌜ at ≤ length (now s) ⌝ }
     requires { ⌜ (vars ≤ maxVariable) × (many ≤ maxClauses) ⌝ }
     requires { ⌜ Holds (now heads) (now lits) 0 0 0 [] ⌝ }
@@ -133,19 +151,55 @@ pub fn read_clauses(s: &[u8], at: usize, vars: u64, many: usize, heads: &mut [u6
         match r {
             ClauseRead::Done { next, end } => {
                 if !close(heads, k, end) {
-                    return BodyRead::TooShort { next: next, used: end, closed: k };
+                    return BodyRead::TooShort {
+                        next: next,
+                        used: end,
+                        closed: k,
+                    };
                 }
                 i = next;
                 used = end;
             }
             ClauseRead::Unreadable { next, end } => {
-                return BodyRead::Unreadable { next: next, used: end, closed: k };
+                return BodyRead::Unreadable {
+                    next: next,
+                    used: end,
+                    closed: k,
+                };
             }
             ClauseRead::TooShort { next, end } => {
-                return BodyRead::TooShort { next: next, used: end, closed: k };
+                return BodyRead::TooShort {
+                    next: next,
+                    used: end,
+                    closed: k,
+                };
             }
         }
         k += 1;
     }
-    BodyRead::Done { next: i, used: used }
+    BodyRead::Done {
+        next: i,
+        used: used,
+    }
+}
+
+// The larger of two numbers.
+fn larger(x: u32, y: u32) -> u32
+    ensures { λ r. ⌜ r ≡ max x y ⌝ }
+{
+    if x < y { y } else { x }
+}
+
+// The greatest number among the first `used` of `lits`, or 0.
+pub fn greatest_code(lits: &[u32], used: usize) -> u32
+    requires { ⌜ used ≤ length (now lits) ⌝ }
+    ensures { λ r. ⌜ r ≡ greatest (take used (now (lits .entry))) ⌝ }
+{
+    let mut top: u32 = 0;
+    let mut i = 0;
+    while i < used {
+        top = larger(top, lits[i]);
+        i += 1;
+    }
+    top
 }

@@ -144,7 +144,10 @@ fn with_clauses(line: &[u8], space: usize, vars: u64) -> Header
     let from = space + 1;
     let c = count_of(&line[from..], 16777215);
     match c {
-        Count::Of(clauses) => Header::Of { vars: vars, clauses: clauses },
+        Count::Of(clauses) => Header::Of {
+            vars: vars,
+            clauses: clauses,
+        },
         Count::Wrong => Header::Wrong,
     }
 }

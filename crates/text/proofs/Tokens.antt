@@ -64,8 +64,10 @@ behind [] = ((λ e. refl), (λ b w e. absurd (let z : _≡_ {A = ℕ} 0 1 = cc i
 behind (x ∷ t) =
     bool-cases (isBlank x)
     (λ y. rw (y, blanks) (behind t))
-    (λ n. rw (n, blanks) ((λ e. absurd (let q : x ∷ word t ≡ [] = (rw (n, word) at e) in let z : _≡_ {A = ℕ} 0 1 = cc in omega arith)),
-    (λ b w e. record { first = x; others = t; is = refl; no-blank = n })))
+    (λ n. rw (n, blanks) (
+      (λ e. absurd (let q : x ∷ word t ≡ [] = (rw (n, word) at e) in let z : _≡_ {A = ℕ} 0 1 = cc in omega arith)),
+      (λ b w e. record { first = x; others = t; is = refl; no-blank = n }),
+    ))
 
 -- What `token_at` found.
 

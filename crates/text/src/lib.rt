@@ -101,7 +101,10 @@ fn finish(s: &[u8], at: usize, v: u64) -> Number
     if ends_word(s, at) {
         return Number { value: v, next: at };
     }
-    Number { value: 0, next: word_end(s, at) }
+    Number {
+        value: 0,
+        next: word_end(s, at),
+    }
 }
 
 // A number that is above `most` already, and goes on at `from`.
@@ -119,7 +122,10 @@ fn long(s: &[u8], from: usize) -> Number
         }
         i += 1;
     }
-    Number { value: 1000000000000000000, next: i }
+    Number {
+        value: 1000000000000000000,
+        next: i,
+    }
 }
 
 // A number that is `first` so far, and goes on at `from`.
@@ -155,10 +161,16 @@ fn positive(s: &[u8], at: usize) -> Number
     }
     let b = s[at];
     if b < 49 {
-        return Number { value: 0, next: word_end(s, at) };
+        return Number {
+            value: 0,
+            next: word_end(s, at),
+        };
     }
     if 57 < b {
-        return Number { value: 0, next: word_end(s, at) };
+        return Number {
+            value: 0,
+            next: word_end(s, at),
+        };
     }
     digits_from(s, at + 1, wide(b - 48))
 }
@@ -170,9 +182,15 @@ fn one_byte(s: &[u8], at: usize, t: Token) -> Scanned
 {
     let next = at + 1;
     if ends_word(s, next) {
-        return Scanned { token: t, next: next };
+        return Scanned {
+            token: t,
+            next: next,
+        };
     }
-    Scanned { token: Token::Other, next: word_end(s, next) }
+    Scanned {
+        token: Token::Other,
+        next: word_end(s, next),
+    }
 }
 
 // A negative number, whose sign stands at `at`.
@@ -184,9 +202,15 @@ fn negative(s: &[u8], at: usize) -> Scanned
     let v = n.value;
     let next = n.next;
     if v == 0 {
-        return Scanned { token: Token::Other, next: next };
+        return Scanned {
+            token: Token::Other,
+            next: next,
+        };
     }
-    Scanned { token: Token::Minus(v), next: next }
+    Scanned {
+        token: Token::Minus(v),
+        next: next,
+    }
 }
 
 // A positive number, or another word, at `at`.
@@ -198,9 +222,15 @@ fn plain(s: &[u8], at: usize) -> Scanned
     let v = n.value;
     let next = n.next;
     if v == 0 {
-        return Scanned { token: Token::Other, next: next };
+        return Scanned {
+            token: Token::Other,
+            next: next,
+        };
     }
-    Scanned { token: Token::Plus(v), next: next }
+    Scanned {
+        token: Token::Plus(v),
+        next: next,
+    }
 }
 
 // The word at `at`, where there is no blank, as a token.
@@ -227,7 +257,10 @@ pub fn token_at(s: &[u8], at: usize) -> Scanned
 {
     let p = skip_blanks(s, at);
     if s.len() <= p {
-        return Scanned { token: Token::Nothing, next: p };
+        return Scanned {
+            token: Token::Nothing,
+            next: p,
+        };
     }
     word_at(s, p)
 }

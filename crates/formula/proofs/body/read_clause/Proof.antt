@@ -58,7 +58,7 @@ add-w : tie.Need-add-w Inv-loop μ-loop
 add-w c = search needs
 
 loop-less : tie.Need-loop-less Inv-loop μ-loop
-loop-less c = 
+loop-less c =
     let taken = reading-next _ (omega (arith, c .before .before .before .before .before .before .before .before .before .before .before .before .before .pre)) _ _ _ _ _ _ _ (c .before .before .before .before .before .before .before .before .before .before .loop .inv) _ _ (c .before .before .before .before .before .before .before .before .before .token-at .ensures) _ (sym (c .before .before .before .before .before .before .x .given .1) ∙ c .before .before .before .before .before .before .before .before .item-of .ensures) in
     omega (arith, taken .later, taken .within)
 
