@@ -17,8 +17,8 @@ use Rattle.rules.specs.Judging.{
 use Rattle.rules.specs.Answers.{
   Answer,
   verified,
-  badFormula,
-  badStep,
+  unreadableFormula,
+  unreadableStep,
   refusedStep,
   unfinished,
   Ending,
@@ -116,7 +116,7 @@ deleted-twice-ground : ends R "9 d 1 0\n9 d 1 0\n" ≡ endsRefused 2 (deletionNo
 unfolding ending
 deleted-twice-ground = refl
 
-ends-inside-a-step : says R "9 1 2 0 1 3 6" ≡ badStep 1
+ends-inside-a-step : says R "9 1 2 0 1 3 6" ≡ unreadableStep 1
 unfolding verdict
 ends-inside-a-step = refl
 
@@ -196,7 +196,7 @@ wrong-4-deleted-as-hint-ground : ends "p cnf 1 1\n1 0\n" "1 d 1 0\n2 -1 0 0\n3 0
 unfolding ending
 wrong-4-deleted-as-hint-ground = refl
 
-wrong-5-modulo : says "p cnf 1 1\n4294967297 0\n" "" ≡ badFormula
+wrong-5-modulo : says "p cnf 1 1\n4294967297 0\n" "" ≡ unreadableFormula
 unfolding verdict
 wrong-5-modulo = refl
 
@@ -238,7 +238,7 @@ id-at-the-limit : says "p cnf 1 1\n1 0\n" "268435455 1 0 1 0\n" ≡ unfinished 1
 unfolding verdict
 id-at-the-limit = refl
 
-id-beyond-the-limit : says "p cnf 1 1\n1 0\n" "268435456 1 0 1 0\n" ≡ badStep 1
+id-beyond-the-limit : says "p cnf 1 1\n1 0\n" "268435456 1 0 1 0\n" ≡ unreadableStep 1
 unfolding verdict
 id-beyond-the-limit = refl
 
@@ -250,11 +250,11 @@ hint-at-the-limit-ground : ends "p cnf 1 1\n1 0\n" "2 1 0 268435455 0\n" ≡ end
 unfolding ending
 hint-at-the-limit-ground = refl
 
-hint-beyond-the-limit : says "p cnf 1 1\n1 0\n" "2 1 0 268435456 0\n" ≡ badStep 1
+hint-beyond-the-limit : says "p cnf 1 1\n1 0\n" "2 1 0 268435456 0\n" ≡ unreadableStep 1
 unfolding verdict
 hint-beyond-the-limit = refl
 
-group-beyond-the-limit : says "p cnf 1 1\n1 0\n" "2 1 0 -268435456 0\n" ≡ badStep 1
+group-beyond-the-limit : says "p cnf 1 1\n1 0\n" "2 1 0 -268435456 0\n" ≡ unreadableStep 1
 unfolding verdict
 group-beyond-the-limit = refl
 
@@ -262,19 +262,19 @@ step-literal-at-the-limit : says "p cnf 1 1\n1 0\n" "2 16777215 0 0\n" ≡ unfin
 unfolding verdict
 step-literal-at-the-limit = refl
 
-step-literal-beyond-the-limit : says "p cnf 1 1\n1 0\n" "2 16777216 0 0\n" ≡ badStep 1
+step-literal-beyond-the-limit : says "p cnf 1 1\n1 0\n" "2 16777216 0 0\n" ≡ unreadableStep 1
 unfolding verdict
 step-literal-beyond-the-limit = refl
 
-step-literal-modulo : says "p cnf 1 1\n1 0\n" "2 4294967297 0 0\n" ≡ badStep 1
+step-literal-modulo : says "p cnf 1 1\n1 0\n" "2 4294967297 0 0\n" ≡ unreadableStep 1
 unfolding verdict
 step-literal-modulo = refl
 
-deletion-of-zero : says "p cnf 1 1\n1 0\n" "0 d 1 0\n" ≡ badStep 1
+deletion-under-id-0 : says "p cnf 1 1\n1 0\n" "0 d 1 0\n" ≡ unreadableStep 1
 unfolding verdict
-deletion-of-zero = refl
+deletion-under-id-0 = refl
 
-deletion-under-a-negative-id : says "p cnf 1 1\n1 0\n" "-1 d 1 0\n" ≡ badStep 1
+deletion-under-a-negative-id : says "p cnf 1 1\n1 0\n" "-1 d 1 0\n" ≡ unreadableStep 1
 unfolding verdict
 deletion-under-a-negative-id = refl
 
@@ -286,18 +286,90 @@ deletion-of-nothing : says "p cnf 1 1\n1 0\n" "1 d 0\n" ≡ unfinished 1
 unfolding verdict
 deletion-of-nothing = refl
 
-deletion-of-a-negative-id : says "p cnf 1 1\n1 0\n" "1 d -1 0\n" ≡ badStep 1
+deletion-of-a-negative-id : says "p cnf 1 1\n1 0\n" "1 d -1 0\n" ≡ unreadableStep 1
 unfolding verdict
 deletion-of-a-negative-id = refl
 
-letter-in-a-list : says "p cnf 1 1\n1 0\n" "2 1 d 0 0\n" ≡ badStep 1
+letter-in-a-list : says "p cnf 1 1\n1 0\n" "2 1 d 0 0\n" ≡ unreadableStep 1
 unfolding verdict
 letter-in-a-list = refl
 
-nothing-may-follow-the-last-0 : says "p cnf 1 1\n1 0\n" "2 1 0 1 0xyz\n" ≡ badStep 1
+directly-behind-the-last-0 : says "p cnf 1 1\n1 0\n" "2 1 0 1 0xyz\n" ≡ unreadableStep 1
 unfolding verdict
-nothing-may-follow-the-last-0 = refl
+directly-behind-the-last-0 = refl
 
-an-unreadable-step-is-not-judged : says "p cnf 1 1\n1 0\n" "1 1 0 99 x 0\n" ≡ badStep 1
+an-unreadable-step-is-not-judged : says "p cnf 1 1\n1 0\n" "1 1 0 99 x 0\n" ≡ unreadableStep 1
 unfolding verdict
 an-unreadable-step-is-not-judged = refl
+
+a-group-too-many : says "p cnf 2 2\n1 2 0\n2 0\n" "3 -1 0 -1 2 -2 0\n" ≡ refusedStep 1
+unfolding verdict
+a-group-too-many = refl
+
+a-group-too-many-ground : ends "p cnf 2 2\n1 2 0\n2 0\n" "3 -1 0 -1 2 -2 0\n" ≡ endsRefused 1 (groupsDontMatch 2)
+unfolding ending
+a-group-too-many-ground = refl
+
+a-group-for-another-clause : says "p cnf 3 3\n1 2 0\n2 0\n1 3 0\n" "4 -1 0 -1 2 -2 0\n" ≡ refusedStep 1
+unfolding verdict
+a-group-for-another-clause = refl
+
+a-group-for-another-clause-ground : ends "p cnf 3 3\n1 2 0\n2 0\n1 3 0\n" "4 -1 0 -1 2 -2 0\n" ≡ endsRefused 1 (groupsDontMatch 2)
+unfolding ending
+a-group-for-another-clause-ground = refl
+
+a-group-twice : says "p cnf 2 2\n1 2 0\n2 0\n" "3 -1 0 -1 2 -1 2 0\n" ≡ refusedStep 1
+unfolding verdict
+a-group-twice = refl
+
+a-group-twice-ground : ends "p cnf 2 2\n1 2 0\n2 0\n" "3 -1 0 -1 2 -1 2 0\n" ≡ endsRefused 1 (groupsDontMatch 1)
+unfolding ending
+a-group-twice-ground = refl
+
+group-hint-not-live : says "p cnf 2 2\n1 2 0\n2 0\n" "3 -1 0 -1 99 0\n" ≡ refusedStep 1
+unfolding verdict
+group-hint-not-live = refl
+
+group-hint-not-live-ground : ends "p cnf 2 2\n1 2 0\n2 0\n" "3 -1 0 -1 99 0\n" ≡ endsRefused 1 (hintNotLive 99)
+unfolding ending
+group-hint-not-live-ground = refl
+
+group-at-the-limit : says "p cnf 1 1\n1 0\n" "2 -1 0 -268435455 0\n" ≡ refusedStep 1
+unfolding verdict
+group-at-the-limit = refl
+
+group-at-the-limit-ground : ends "p cnf 1 1\n1 0\n" "2 -1 0 -268435455 0\n" ≡ endsRefused 1 (groupsDontMatch 1)
+unfolding ending
+group-at-the-limit-ground = refl
+
+opposites-in-a-group-clause : says "p cnf 2 1\n1 2 -2 0\n" "2 -1 0 -1 0\n" ≡ unfinished 1
+unfolding verdict
+opposites-in-a-group-clause = refl
+
+hints-of-a-done-group : says "p cnf 2 1\n1 2 0\n" "2 -1 -2 0 -1 99 0\n" ≡ unfinished 1
+unfolding verdict
+hints-of-a-done-group = refl
+
+a-true-literal-in-a-hint : says "p cnf 2 2\n1 0\n1 2 0\n" "3 0 1 2 0\n" ≡ refusedStep 1
+unfolding verdict
+a-true-literal-in-a-hint = refl
+
+a-true-literal-in-a-hint-ground : ends "p cnf 2 2\n1 0\n1 2 0\n" "3 0 1 2 0\n" ≡ endsRefused 1 (hintNotForced 2)
+unfolding ending
+a-true-literal-in-a-hint-ground = refl
+
+groups-go-on-from-rule-3 : says "p cnf 3 3\n2 0\n1 3 0\n-2 3 0\n" "4 -1 0 1 -2 3 0\n" ≡ unfinished 1
+unfolding verdict
+groups-go-on-from-rule-3 = refl
+
+deletion-of-an-id-beyond-the-limit : says "p cnf 1 1\n1 0\n" "1 d 268435456 0\n" ≡ unreadableStep 1
+unfolding verdict
+deletion-of-an-id-beyond-the-limit = refl
+
+deletion-under-an-id-beyond-the-limit : says "p cnf 1 1\n1 0\n" "268435456 d 1 0\n" ≡ unreadableStep 1
+unfolding verdict
+deletion-under-an-id-beyond-the-limit = refl
+
+plus-in-a-step : says "p cnf 1 1\n1 0\n" "+2 1 0 1 0\n" ≡ unreadableStep 1
+unfolding verdict
+plus-in-a-step = refl

@@ -6,7 +6,7 @@ use mathlib.Core.List.{List, [], _∷_}
 use mathlib.Core.Option.{Option, none, some}
 use Rattle.meaning.specs.Meaning.{Literal, pos, neg, Formula}
 use Rattle.rules.specs.Tools.{bytes}
-use Rattle.rules.specs.Formula.{readFormula}
+use Rattle.rules.specs.Formula.{header, readFormula}
 use Rattle.rules.specs.Written.{writeFormula}
 
 abbrev reads : String → Option Formula
@@ -117,9 +117,9 @@ V-too-large : reads "p cnf 16777216 0\n" ≡ none
 unfolding readFormula
 V-too-large = refl
 
-C-too-large : reads "p cnf 1 16777216\n1 0\n" ≡ none
+too-few-for-C : reads "p cnf 1 16777216\n1 0\n" ≡ none
 unfolding readFormula
-C-too-large = refl
+too-few-for-C = refl
 
 V-with-a-leading-zero : reads "p cnf 01 1\n1 0\n" ≡ none
 unfolding readFormula
@@ -216,6 +216,56 @@ directly-behind-the-last-0 = refl
 no-blank-before-the-0 : reads "p cnf 1 1\n1-0\n" ≡ none
 unfolding readFormula
 no-blank-before-the-0 = refl
+
+an-empty-line-first : reads "\np cnf 0 0\n" ≡ none
+unfolding readFormula
+an-empty-line-first = refl
+
+two-literals-with-no-blank : reads "p cnf 2 1\n1-2 0\n" ≡ none
+unfolding readFormula
+two-literals-with-no-blank = refl
+
+vertical-tab : reads "p cnf 1 1\n1\u{b}0\n" ≡ none
+unfolding readFormula
+vertical-tab = refl
+
+form-feed : reads "p cnf 1 1\n1\u{c}0\n" ≡ none
+unfolding readFormula
+form-feed = refl
+
+zero-byte : reads "p cnf 1 1\n1\00\n" ≡ none
+unfolding readFormula
+zero-byte = refl
+
+byte-above-127 : reads "p cnf 1 1\n1\u{a0}0\n" ≡ none
+unfolding readFormula
+byte-above-127 = refl
+
+C-with-a-plus : reads "p cnf 1 +1\n1 0\n" ≡ none
+unfolding readFormula
+C-with-a-plus = refl
+
+C-with-a-leading-zero : reads "p cnf 1 01\n1 0\n" ≡ none
+unfolding readFormula
+C-with-a-leading-zero = refl
+
+minus-zero-C : reads "p cnf 0 -0\n" ≡ none
+unfolding readFormula
+minus-zero-C = refl
+
+-- The limits of V and C, on the header alone.
+
+header-at-the-limits : header (bytes "p cnf 16777215 16777215") ≡ some (16777215, 16777215)
+unfolding header
+header-at-the-limits = refl
+
+header-with-V-too-large : header (bytes "p cnf 16777216 1") ≡ none
+unfolding header
+header-with-V-too-large = refl
+
+header-with-C-too-large : header (bytes "p cnf 1 16777216") ≡ none
+unfolding header
+header-with-C-too-large = refl
 
 -- Written.
 

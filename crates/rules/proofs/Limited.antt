@@ -14,14 +14,9 @@ use Rattle.meaning.proofs.Truth.{bool-cases}
 use Rattle.rules.specs.Tools.{bytes, _>>=_}
 use Rattle.rules.specs.Limits.{maxVariable, maxClauses}
 use Rattle.rules.specs.Text.{Token, nought, plus, minus, letterD, other, isNought, token, tokens, literal}
-use Rattle.rules.specs.Formula.{afterComments, before, behind, afterPrefix, count, header, items, readClauses, atEnd, readFormula}
+use Rattle.rules.specs.Formula.{afterComments, before, behind, afterPrefix, count, header, items, readClauses, atEnd, readFormula, WithinLimits}
 use Rattle.rules.proofs.Options.{none-some, some-inj, bound, Bound, only-some, Passed}
 use Rattle.rules.proofs.Words.{Proper, AllProper, tokens-proper}
-
-pub record WithinLimits (F : Formula) : Type 0 where
-  pub few-variables : F .vars ≤ maxVariable
-  pub few-clauses : length (F .clauses) ≤ maxClauses
-  pub all-within : AllWithin (F .vars) (F .clauses)
 
 count-limited : (m : ℕ) (t : Token) (n : ℕ) → count m t ≡ some n → n ≤ m
 unfolding count

@@ -13,11 +13,11 @@ use Rattle.meaning.proofs.Truth.{bool-cases}
 use Rattle.rules.specs.Tools.{bytes, _>>=_}
 use Rattle.rules.specs.Limits.{maxVariable, maxClauses}
 use Rattle.rules.specs.Text.{isBlank, isDigit, Token, nought, plus, minus, letterD, other, isNought, token, tokens, wordsFrom, literal}
-use Rattle.rules.specs.Formula.{afterComments, before, behind, afterPrefix, count, header, items, readClauses, atEnd, readFormula}
+use Rattle.rules.specs.Formula.{afterComments, before, behind, afterPrefix, count, header, items, readClauses, atEnd, readFormula, WithinLimits}
 use Rattle.rules.specs.Written.{decimal, writeLiteral, writeClause, writeClauses, writeFormula}
 use Rattle.rules.proofs.Words.{digit-range, NoBlank, tokens-word}
 use Rattle.rules.proofs.Decimal.{Begins, decimal-begins, AllDigits, decimal-digits, digits-no-blank, token-plus, token-minus}
-use Rattle.rules.proofs.Limited.{WithinLimits, read-within}
+use Rattle.rules.proofs.Limited.{read-within}
 
 -- The line p cnf V C
 

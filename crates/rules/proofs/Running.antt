@@ -15,7 +15,7 @@ use Rattle.rules.specs.Text.{Token, isNought, isLetterD, literal}
 use Rattle.rules.specs.Formula.{items}
 use Rattle.rules.specs.Steps.{Hint, Step, add, delete, clauseId, hint, stepBody, readStep}
 use Rattle.rules.specs.Judging.{State, Judged, refused, addsEmpty, goesOn, judge}
-use Rattle.rules.specs.Answers.{Ending, endsBadStep, run, start}
+use Rattle.rules.specs.Answers.{Ending, endsUnreadableStep, run, start}
 use Rattle.rules.proofs.Options.{none-some, some-inj, bound, Bound}
 use Rattle.rules.proofs.Ids.{Orderly, OrderlyJudged, start-orderly, judge-orderly}
 
@@ -92,7 +92,7 @@ run-fuel (suc f) (suc g) k s (t ∷ ts) h i = go (run-fuel f g) (readStep (t ∷
         on (goesOn s′) z = rw (q, run, z) (ih (suc k) s′ (r .1) (omega (arith, short)) (omega (arith, short)))
 
 -- A step that cannot be read ends the run as unreadable, whatever its judgement would have been: from every state alike.
-pub unreadable-first : (fuel k : ℕ) (s : State) (t : Token) (ts : List Token) → readStep (t ∷ ts) ≡ none → run (suc fuel) k s (t ∷ ts) ≡ endsBadStep (suc k)
+pub unreadable-first : (fuel k : ℕ) (s : State) (t : Token) (ts : List Token) → readStep (t ∷ ts) ≡ none → run (suc fuel) k s (t ∷ ts) ≡ endsUnreadableStep (suc k)
 unfolding run
 unreadable-first fuel k s t ts e = rw (e, run)
 

@@ -63,14 +63,14 @@ use Rattle.rules.specs.Judging.{
 use Rattle.rules.specs.Answers.{
   Ending,
   endsVerified,
-  endsBadFormula,
-  endsBadStep,
+  endsUnreadableFormula,
+  endsUnreadableStep,
   endsRefused,
   endsUnfinished,
   Answer,
   verified,
-  badFormula,
-  badStep,
+  unreadableFormula,
+  unreadableStep,
   refusedStep,
   unfinished,
   answer,
@@ -80,6 +80,7 @@ use Rattle.rules.specs.Answers.{
   checked,
   ending,
   verdict,
+  Refuted,
 }
 use Rattle.rules.proofs.Options.{none-some, some-none, some-inj}
 use Rattle.rules.proofs.Literals.{same-equal, opposite-false, opposite-true, among-satisfies}
@@ -403,8 +404,8 @@ judge-fine a s (delete ns) o h = deletion-fine a ns s h
 
 abbrev NotVerified : Ending → Type 0
 NotVerified (endsVerified k) = ⊥
-NotVerified endsBadFormula = Unit {0}
-NotVerified (endsBadStep k) = Unit {0}
+NotVerified endsUnreadableFormula = Unit {0}
+NotVerified (endsUnreadableStep k) = Unit {0}
 NotVerified (endsRefused k g) = Unit {0}
 NotVerified (endsUnfinished k) = Unit {0}
 
@@ -438,16 +439,10 @@ unfolding checked start
 checked-sound F ts k e =
     no-assignment-solves F .1 (λ a s. subst NotVerified e (run-sound (suc (length ts)) 0 (start F) ts (start-orderly F) a (numbered-holds a 0 (F .clauses) s)))
 
--- The bytes f spell a formula, and it has no solution.
-pub record Refuted (f : List ℕ) : Type 0 where
-  pub formula : Formula
-  pub is-read : readFormula f ≡ some formula
-  pub unsolvable : Unsolvable formula
-
 answer-verified : (e : Ending) (k : ℕ) → answer e ≡ verified k → e ≡ endsVerified k
 answer-verified (endsVerified j) k p = let q : j ≡ k = cc in ap endsVerified q
-answer-verified endsBadFormula k p = absurd (let z : _≡_ {A = ℕ} 0 1 = cc in omega arith)
-answer-verified (endsBadStep j) k p = absurd (let z : _≡_ {A = ℕ} 0 1 = cc in omega arith)
+answer-verified endsUnreadableFormula k p = absurd (let z : _≡_ {A = ℕ} 0 1 = cc in omega arith)
+answer-verified (endsUnreadableStep j) k p = absurd (let z : _≡_ {A = ℕ} 0 1 = cc in omega arith)
 answer-verified (endsRefused j g) k p = absurd (let z : _≡_ {A = ℕ} 0 1 = cc in omega arith)
 answer-verified (endsUnfinished j) k p = absurd (let z : _≡_ {A = ℕ} 0 1 = cc in omega arith)
 
@@ -460,5 +455,5 @@ verdict-sound f p k e = go (readFormula f) refl
     ended = answer-verified (ending f p) k e
 
     go : (r : Option Formula) → readFormula f ≡ r → Refuted f
-    go none q = absurd (let y : endsBadFormula ≡ endsVerified k = (rw (q, ending) at ended) in let z : _≡_ {A = ℕ} 0 1 = cc in omega arith)
+    go none q = absurd (let y : endsUnreadableFormula ≡ endsVerified k = (rw (q, ending) at ended) in let z : _≡_ {A = ℕ} 0 1 = cc in omega arith)
     go (some F) q = record { formula = F; is-read = q; unsolvable = checked-sound F (tokens p) k (rw (q, ending) at ended) }

@@ -1,10 +1,11 @@
 -- Section 3, a formula: comment lines, the line p cnf V C, and exactly C clauses.
-use Prim.Native.Nat.{ℕ, zero, suc}
+use Prim.Native.Nat.{ℕ, zero, suc, _≤_}
 use mathlib.Core.Bool.{Bool, true, false, not}
 use mathlib.Core.List.{List, [], _∷_}
 use mathlib.Core.Option.{Option, none, some}
 use lib.Dec.{eqb, leb}
-use Rattle.meaning.specs.Meaning.{Literal, Clause, Formula}
+use lib.ListN.{length}
+use Rattle.meaning.specs.Meaning.{Literal, Clause, Formula, AllWithin}
 use Rattle.rules.specs.Tools.{bytes, _>>=_, only}
 use Rattle.rules.specs.Limits.{maxVariable, maxClauses}
 use Rattle.rules.specs.Text.{Token, nought, plus, minus, letterD, other, isNought, token, tokens, literal}
@@ -39,7 +40,7 @@ count m (minus n) = none
 count m letterD = none
 count m other = none
 
--- "The line p cnf V C, with single spaces (32), nothing before or after on it": V and C.
+-- "The line p cnf V C, with single spaces, nothing before or after on it": V and C. (32 is the space.)
 unfoldable pub header : List ℕ → Option (ℕ × ℕ)
 unfolding afterPrefix before behind count token
 header line = do
@@ -82,3 +83,10 @@ readFormula s = do
   (v, c) ← header (before 10 text)
   (cs, rest) ← readClauses v c (tokens (behind 10 text))
   atEnd rest (record { vars = v; clauses = cs })
+
+-- A formula within the limits, as every formula that is read is (`read-within` in proofs/): V and the number of clauses, and
+-- each literal's variable is one of 1 to V.
+pub record WithinLimits (F : Formula) : Type 0 where
+  pub few-variables : F .vars ≤ maxVariable
+  pub few-clauses : length (F .clauses) ≤ maxClauses
+  pub all-within : AllWithin (F .vars) (F .clauses)

@@ -62,7 +62,7 @@ pub data Ground : Type 0 where
   hintNotLive : ℕ → Ground  -- rule 3, the hint, also inside a group
   hintNotForced : ℕ → Ground  -- rule 3, the hint, also inside a group
   noConflict : Option ℕ → Ground  -- rule 4: K is empty; or the group of this clause
-  groupsDontMatch : ℕ → Ground  -- rule 4: the first id that only one of the two lists has at its place
+  groupsDontMatch : ℕ → Ground  -- rule 4: at the first place where the two lists differ, the smaller id, or the one there is
   deletionNotLive : ℕ → Ground  -- the id that is to be deleted
 
 -- An assignment, as the list of the literals that are true. A literal is false if its opposite is true, and has no value if
@@ -96,6 +96,7 @@ lookOf a [] = allFalse
 lookOf a (l ∷ c) =
     elim (without l c) [ [] ↦ elim (among l a) [ true ↦ neither | false ↦ forces l ] | k ∷ ks ↦ neither ]
 
+-- What looking at the clause c under the assignment a shows.
 unfoldable pub lookAt : Trail → Clause → Look
 unfolding lookOf notFalse
 lookAt a c = lookOf a (notFalse a c)
@@ -106,6 +107,7 @@ pub data Taken : Type 0 where
   badHint : Ground → Taken
   hintsEnd : Trail → Taken
 
+-- Takes the hints one by one: "Each must be the id of a live clause. Look at that clause under the assignment."
 unfoldable pub takeHints : Live → Trail → List ℕ → Taken
 unfolding find lookAt
 takeHints live a [] = hintsEnd a
@@ -132,7 +134,8 @@ groups [] = []
 groups (look h ∷ hs) = groups hs
 groups (group d ∷ hs) = (d, leading hs) ∷ groups hs
 
--- Where a list of ids is first another than it must be: the smaller of the two ids there, or the one that is there.
+-- Where the groups' numbers are first others than the ids that they must be: the smaller of the two numbers there, or the
+-- one that is there where the other list has ended.
 unfoldable pub mismatch : List ℕ → List (ℕ × List ℕ) → Option ℕ
 mismatch [] [] = none
 mismatch [] (g ∷ gs) = some (g .0)
@@ -154,7 +157,8 @@ groupFault live a d others hs =
       | false ↦ groupEnd d (takeHints live (map opposite others ++ a) hs)
     ]
 
--- Rule 4, the groups in order, each from the same assignment a; q is the opposite of p.
+-- Rule 4, the groups in order, each from the same assignment a; q is the opposite of p. (That clause d is live has been tested
+-- before, so that the first ground does not occur.)
 unfoldable pub groupsFault : Live → Trail → Literal → List (ℕ × List ℕ) → Option Ground
 unfolding groupFault without find
 groupsFault live a q [] = none
@@ -210,7 +214,7 @@ pub data Judged : Type 0 where
   addsEmpty : Judged
   goesOn : State → Judged
 
--- "Deletion: the ids are taken in order; each must be live; it then isn't any more."
+-- "The ids are taken in order; each must be live, else the step is refused; it then isn't any more."
 unfoldable pub judgeDeletion : State → List ℕ → Judged
 unfolding find remove
 judgeDeletion s [] = goesOn s
@@ -225,6 +229,7 @@ abbrev pub added : State → ℕ → Clause → Judged
 added s n [] = addsEmpty
 added s n (l ∷ k) = goesOn (record { live = s .live ++ ((n, l ∷ k) ∷ []); last = n })
 
+-- What a step comes to in the state s.
 unfoldable pub judge : State → Step → Judged
 unfolding additionFault judgeDeletion
 judge s (add n k hs) = elim (additionFault (s .live) (s .last) n k hs) [ none ↦ added s n k | some g ↦ refused g ]

@@ -20,7 +20,7 @@ pub data Step : Type 0 where
   add : ℕ → Clause → List Hint → Step
   delete : List ℕ → Step
 
--- "Ids are positive."
+-- "Ids are positive", and go up to a limit.
 unfoldable pub clauseId : Token → Option ℕ
 clauseId nought = none
 clauseId (plus n) = only (leb n maxId) n

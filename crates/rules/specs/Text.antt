@@ -1,5 +1,6 @@
--- Section 2, text: blanks, numbers, and the tokens that a text is made of. A number has no limit here. Each place where
--- one may stand tests its own, so a number that is too large is never taken for another one.
+-- Section 2, text: blanks, numbers, and the tokens that a text is made of. A text is a list of bytes, each a number from 0 to
+-- 255. A number in it has no limit here. Each place where one may stand tests its own, so a number that is too large is never
+-- taken for another one.
 use Prim.Native.Nat.{ℕ, _+_, _*_, _-_}
 use mathlib.Core.Bool.{Bool, true, false, _&&_, _||_}
 use mathlib.Core.List.{List, [], _∷_, map}
@@ -12,6 +13,7 @@ use Rattle.rules.specs.Tools.{bytes, only}
 unfoldable pub isBlank : ℕ → Bool
 isBlank b = eqb b 32 || eqb b 9 || eqb b 13 || eqb b 10
 
+-- A decimal digit: the bytes 48 to 57.
 unfoldable pub isDigit : ℕ → Bool
 isDigit b = leb 48 b && leb b 57
 
@@ -40,6 +42,7 @@ unfoldable pub signed : (ℕ → Token) → List ℕ → Token
 unfolding positive
 signed sign w = elim (positive w) [ none ↦ other | some n ↦ sign n ]
 
+-- The two texts are the same, byte by byte.
 unfoldable pub sameBytes : List ℕ → List ℕ → Bool
 sameBytes [] [] = true
 sameBytes [] (y ∷ ys) = false

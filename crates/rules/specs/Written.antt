@@ -18,6 +18,7 @@ unfoldable pub decimal : ℕ → List ℕ
 unfolding decimalOnto
 decimal n = decimalOnto (suc n) n []
 
+-- A literal: its variable in decimal, behind a - (45) if it is negative.
 unfoldable pub writeLiteral : Literal → List ℕ
 unfolding decimal
 writeLiteral (pos v) = decimal v
@@ -29,11 +30,13 @@ unfolding writeLiteral
 writeClause [] = bytes "0\n"
 writeClause (l ∷ c) = writeLiteral l ++ 32 ∷ writeClause c
 
+-- The clauses, one behind the other.
 unfoldable pub writeClauses : List Clause → List ℕ
 unfolding writeClause
 writeClauses [] = []
 writeClauses (c ∷ cs) = writeClause c ++ writeClauses cs
 
+-- A formula: the line p cnf V C, then its clauses.
 unfoldable pub writeFormula : Formula → List ℕ
 unfolding decimal writeClauses
 writeFormula F = bytes "p cnf " ++ decimal (F .vars) ++ 32 ∷ decimal (length (F .clauses)) ++ 10 ∷ writeClauses (F .clauses)
