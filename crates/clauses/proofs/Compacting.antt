@@ -1,7 +1,7 @@
 -- Laws of moving clauses down. Assumes nothing.
-use Prim.Native.Nat.{ℕ, zero, suc, _+_, _-_, _*_, _/_, _%_, _^_, _<_, _≤_}
+use Prim.Native.Nat.{ℕ, _+_, _-_, _*_, _/_, _%_, _^_, _<_, _≤_}
 use mathlib.Core.Path.{_≡_, refl, sym, ap, _∙_}
-use mathlib.Core.Logic.{_⊎_, inl, inr, ⊎-elim}
+use mathlib.Core.Logic.{_⊎_, ⊎-elim}
 use mathlib.Core.List.{List, [], _∷_, _++_, map, append-nil}
 use native.Mathlib.Omega.{arith}
 use borrow.Author.Tests.{eqb-true, eqb-false}
@@ -11,11 +11,11 @@ use lib.Seq.{slice, getD-set-same, getD-set-other, ext-getD, getD-take, getD-dro
 use Rattle.meaning.proofs.Truth.{bool-cases}
 use Rattle.rules.specs.Judging.{Live}
 use Rattle.clauses.specs.Codes.{literalOf}
-use Rattle.clauses.specs.Store.{idAt, startAt, clauseAt, entryAt, liveOf, Store, Holds}
+use Rattle.clauses.specs.Store.{idAt, startAt, entryAt, liveOf, Store, Holds}
 use Rattle.clauses.specs.Moving.{Moved, Movable, Kept, Dropped, AllMoved}
 use Rattle.clauses.proofs.Entries.{clause-is, entry-live, entry-deleted, live-more, live-none, start-below}
 use Rattle.clauses.proofs.Numbers.{cut}
-use Rattle.clauses.proofs.Heads.{written, written-long, written-other, written-head, written-end}
+use Rattle.clauses.proofs.Heads.{written, written-other, written-head, written-end}
 use Rattle.clauses.proofs.Holding.{holds-empty, holds-literals, holds-more}
 
 -- The literals from `from` up to `i` are moved.
@@ -115,6 +115,7 @@ pub record Compacting (heads₀ lits₀ : List ℕ) (n : ℕ) (heads lits : List
   pub lits-long : length lits ≡ length lits₀
   pub heads-rest : (i : ℕ) → 2 * k ≤ i → getD heads i 0 ≡ getD heads₀ i 0
   pub lits-rest : (i : ℕ) → startAt heads₀ k ≤ i → getD lits i 0 ≡ getD lits₀ i 0
+  pub all-live : (i : ℕ) → i < m → idAt heads i % 2 ≡ 0
   pub larger : (i j : ℕ) → i < m → k ≤ j → j < n → idAt heads i / 2 < idAt heads₀ j / 2
   pub holds : (used last : ℕ) → Store heads₀ lits₀ n used last → Holds heads lits m w last (liveOf heads₀ lits₀ k)
 
@@ -130,6 +131,7 @@ compacting-start heads lits n used last s = record {
   lits-long = refl;
   heads-rest = λ i h. refl;
   lits-rest = λ i h. refl;
+  all-live = λ i h. absurd (omega arith);
   larger = λ i j h l m. absurd (omega arith);
   holds = λ used last t. rw (live-none heads lits) (holds-empty heads lits last (omega (arith, t .room)) (t .begins));
 }
@@ -174,6 +176,7 @@ module _ (heads₀ lits₀ : List ℕ) (n used₀ last₀ : ℕ) (s : Store head
     lits-long = c .lits-long;
     heads-rest = λ i h. c .heads-rest i (omega arith);
     lits-rest = λ i h. c .lits-rest i (omega (arith, forward));
+    all-live = c .all-live;
     larger = λ i j h l b. c .larger i j h (omega arith) b;
     holds = λ used last t. rw same (c .holds used last t);
   }
@@ -225,6 +228,14 @@ module _ (heads₀ lits₀ : List ℕ) (n used₀ last₀ : ℕ) (s : Store head
         (λ ge. let z : i ≡ m = omega arith in rw (z, new-id) (s .rising k j (omega arith) b))
         (cut i m)
 
+    stay-live : (i : ℕ) → i < m + 1 → idAt after i % 2 ≡ 0
+    unfolding after
+    stay-live i h =
+        ⊎-elim
+        (λ lt. rw (written-other heads m (idAt heads k) (w + size) (2 * i) (λ e. omega arith) (λ e. omega arith)) (c .all-live i lt))
+        (λ ge. let z : i ≡ m = omega arith in rw (z, new-id, ← id-there) live)
+        (cut i m)
+
     fits-there : w + size ≤ length lits
     fits-there = omega (arith, size-is, c .down, forward, inside, c .lits-long)
 
@@ -271,6 +282,7 @@ module _ (heads₀ lits₀ : List ℕ) (n used₀ last₀ : ℕ) (s : Store head
       lits-long = moved .long ∙ c .lits-long;
       heads-rest = rest-number;
       lits-rest = λ i h. moved .behind i (rw end-there h) ∙ c .lits-rest i (omega (arith, forward));
+      all-live = stay-live;
       larger = larger-more;
       holds = holds-on;
     }
@@ -318,6 +330,7 @@ pub compacting-end : (heads₀ lits₀ : List ℕ) (n : ℕ) (heads lits : List 
     → AllMoved heads₀ lits₀ n heads lits (record { n = m; used = w; turns = moves + turns })
 compacting-end heads₀ lits₀ n heads lits k m w moves turns c h = record {
   holds = λ used last live t. rw (sym (t .same), sym all) (c .holds used last (t .store));
+  all-live = c .all-live;
   counted = omega (arith, c .moves-counted, c .turns-counted);
   heads-long = c .heads-long;
   lits-long = c .lits-long;

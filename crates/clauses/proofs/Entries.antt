@@ -1,20 +1,16 @@
 -- Laws of what the two lists hold: the same numbers at the same places are the same live clauses. Assumes nothing.
-use Prim.Native.Nat.{ℕ, zero, suc, _+_, _-_, _*_, _/_, _%_, _<_, _≤_}
+use Prim.Native.Nat.{ℕ, zero, suc, _+_, _-_, _/_, _%_, _<_, _≤_}
 use mathlib.Core.Path.{_≡_, refl, sym, ap, _∙_}
-use mathlib.Core.Bool.{Bool, true, false}
-use mathlib.Core.List.{List, [], _∷_, _++_, map, append-nil}
+use mathlib.Core.List.{List, [], _∷_, _++_, map}
 use native.Mathlib.Omega.{arith}
 use native.Mathlib.Numerals.{add-one}
 use borrow.Author.Tests.{eqb-true, eqb-false, eq-eqb, ne-eqb}
 use lib.Dec.{eqb}
-use lib.ListN.{length, getD, take, length-append}
-use lib.Seq.{slice, take-take, length-take-le, getD-take, ext-getD}
-use Rattle.meaning.specs.Meaning.{Clause}
+use lib.ListN.{take, drop}
+use lib.Seq.{slice, take-take}
 use Rattle.meaning.proofs.Truth.{bool-cases}
-use Rattle.rules.specs.Judging.{Live}
-use Rattle.rules.specs.Answers.{numbered}
 use Rattle.clauses.specs.Codes.{literalOf}
-use Rattle.clauses.specs.Store.{idAt, startAt, clauseAt, entryAt, liveOf, Store, Holds, clausesOf}
+use Rattle.clauses.specs.Store.{idAt, startAt, clauseAt, entryAt, liveOf, Store}
 
 -- One clause.
 
@@ -63,7 +59,7 @@ module _ (heads lits heads′ lits′ : List ℕ) where
 -- A part of a list up to `used` goes by what is before `used`.
 pub slice-same : (xs ys : List ℕ) (a e used : ℕ) → e ≤ used → take used ys ≡ take used xs → slice a e ys ≡ slice a e xs
 slice-same xs ys a e used h s =
-    ap (λ (l : List ℕ). lib.ListN.drop a l) (sym (take-take e used ys h) ∙ (ap (take e) s ∙ take-take e used xs h))
+    ap (drop a) (sym (take-take e used ys h) ∙ (ap (take e) s ∙ take-take e used xs h))
 
 -- The clauses lie one after the other, so none ends behind `used`.
 module _ (heads lits : List ℕ) (n used last : ℕ) (s : Store heads lits n used last) where

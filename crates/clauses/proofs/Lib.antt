@@ -7,3 +7,4 @@ pub mod Looking
 pub mod Holding
 pub mod Searching
 pub mod Compacting
+pub mod Plain

@@ -48,15 +48,17 @@ pub record Dropped (heads lits : List ℕ) (k n used turns : ℕ) (heads′ lits
   pub head : heads′ ≡ heads
   pub literals : lits′ ≡ lits
 
+-- One or the other, by whether the k-th clause is live.
 abbrev pub OneMoved : List ℕ → List ℕ → ℕ → Compacted → List ℕ → List ℕ → Compacted → Type 0
 OneMoved heads lits k d heads′ lits′ r =
     Kept heads lits k (d .n) (d .used) (d .turns) heads′ lits′ (r .n) (r .used) (r .turns)
     ⊎ Dropped heads lits k (d .n) (d .used) (d .turns) heads′ lits′ (r .n) (r .used) (r .turns)
 
--- Whatever live clauses the lists held, they hold them still, with no deleted one between them; and the turns are those for
--- each clause that was there, and for each literal that is there still.
+-- Whatever live clauses the lists held, they hold them still, and no deleted one; and the turns are one for each clause that
+-- was there, live or deleted, and one for each literal that is there still.
 pub record AllMoved (heads lits : List ℕ) (n : ℕ) (heads′ lits′ : List ℕ) (r : Compacted) : Type 0 where
   pub holds : (used last : ℕ) (live : Live) → Holds heads lits n used last live → Holds heads′ lits′ (r .n) (r .used) last live
+  pub all-live : (k : ℕ) → k < r .n → idAt heads′ k % 2 ≡ 0
   pub counted : r .turns ≡ n + r .used
   pub heads-long : length heads′ ≡ length heads
   pub lits-long : length lits′ ≡ length lits

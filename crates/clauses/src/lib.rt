@@ -123,6 +123,7 @@ pub fn lookup(heads: &[u64], n: usize, guess: &[u32], id: u64) -> Found
     find(heads, n, id)
 }
 
+// A place, as a guess holds it.
 fn narrow(x: usize) -> u32
     requires { ⌜ x < 2 ^ 32 ⌝ }
     ensures { λ r. ⌜ r ≡ x ⌝ }

@@ -1,6 +1,7 @@
 -- `clauses::keep` meets its contract: a deleted clause leaves all as it is, and a live one goes by what `shift` and `write_head`
 -- ensure. Assumes nothing.
 use mathlib.Core.Path.{refl}
+use native.Mathlib.Omega.{arith}
 use mathlib.Core.Logic.{inl, inr}
 use Rattle.clauses.proofs.Compacting.{kept-by}
 use borrow.Author.Needs.{needs}
@@ -17,7 +18,7 @@ slice-read-head : tie.Need-slice-read-head
 slice-read-head c = search needs
 
 returns : tie.Need-returns
-returns c = inr (record { is-deleted = c .if1 .taken; next = refl; end = refl; counted = refl; head = refl; literals = refl })
+returns c = inr (record { is-deleted = λ e. omega (arith, c .if1 .taken); next = refl; end = refl; counted = refl; head = refl; literals = refl })
 
 mul-index : tie.Need-mul-index
 mul-index c = search needs
@@ -77,7 +78,7 @@ same-length-2 : tie.Need-same-length-2
 same-length-2 c = search needs
 
 returns-2 : tie.Need-returns-2
-returns-2 c = inl (kept-by _ _ _ _ _ _ _ _ _ _ _ (c .before .before .before .before .before .before .before .before .before .before .before .before .before .before .before .if1 .left) (c .before .before .before .before .before .before .before .before .before .before .before .before .before .index .ensures) (c .before .before .before .before .before .before .before .before .before .before .before .index2 .ensures) (c .before .before .before .before .before .before .before .before .before .shift .ensures) (c .before .before .before .before .write-head .ensures))
+returns-2 c = inl (kept-by _ _ _ _ _ _ _ _ _ _ _ (omega (arith, c .before .before .before .before .before .before .before .before .before .before .before .before .before .before .before .if1 .left)) (c .before .before .before .before .before .before .before .before .before .before .before .before .before .index .ensures) (c .before .before .before .before .before .before .before .before .before .before .before .index2 .ensures) (c .before .before .before .before .before .before .before .before .before .shift .ensures) (c .before .before .before .before .write-head .ensures))
 
 pub keep-spec : {M : Type 1} → statement M
 keep-spec =

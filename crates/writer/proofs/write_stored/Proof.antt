@@ -1,0 +1,60 @@
+-- `writer::write_stored` meets its contract: the clause is the part of the literals that begins and ends where `heads` says. Assumes nothing.
+use Rattle.writer.proofs.Texts.{room-as, counted-as}
+use Rattle.writer.proofs.Stored.{stored-text}
+use borrow.Author.Needs.{needs}
+use Rattle.writer.proofs.write_stored.Statement.{statement}
+use Rattle.writer.proofs.write_stored.Tie as tie
+
+start-requires : tie.Need-start-requires
+start-requires c κs = search needs
+
+add-start : tie.Need-add-start
+add-start c = search needs
+
+start-requires-2 : tie.Need-start-requires-2
+start-requires-2 c κs = search needs
+
+mul-write-clause : tie.Need-mul-write-clause
+mul-write-clause c = search needs
+
+sub-write-clause : tie.Need-sub-write-clause
+sub-write-clause c = search needs
+
+part-write-clause-start : tie.Need-part-write-clause-start
+part-write-clause-start c = search needs
+
+part-write-clause-end : tie.Need-part-write-clause-end
+part-write-clause-end c = search needs
+
+write-clause-requires : tie.Need-write-clause-requires
+write-clause-requires c κs =
+    let to = c .before .before in
+    let from = to .before in
+    let start = from .before .before .before .before in
+    room-as (stored-text _ _ _ (start .pre .0) (from .start .ensures) (to .start2 .ensures)) (start .pre .1)
+
+same-length : tie.Need-same-length
+same-length c = search needs
+
+returns : tie.Need-returns
+returns c =
+    let clause = c .before .before in
+    let to = clause .before .before .before in
+    let from = to .before in
+    let start = from .before .before .before .before in
+    counted-as (stored-text _ _ _ (start .pre .0) (from .start .ensures) (to .start2 .ensures)) (clause .write-clause .ensures)
+
+pub write-stored-spec : {M : Type 1} → statement M
+write-stored-spec =
+    tie.close
+    (tie.spec
+    start-requires
+    add-start
+    start-requires-2
+    mul-write-clause
+    sub-write-clause
+    part-write-clause-start
+    part-write-clause-end
+    write-clause-requires
+    same-length
+    returns)
