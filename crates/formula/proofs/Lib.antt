@@ -5,3 +5,4 @@ pub mod Bodies
 pub mod Fillings
 pub mod Greatest
 pub mod Wholes
+pub mod Writings

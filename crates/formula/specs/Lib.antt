@@ -2,3 +2,4 @@
 pub mod Opening
 pub mod Body
 pub mod Reading
+pub mod Writing

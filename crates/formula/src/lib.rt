@@ -7,6 +7,7 @@ mod body;
 mod opening;
 
 use body::BodyRead;
+use writer::Fit;
 use opening::Header;
 use text::Token;
 ghost use mathlib.Core.Path.{_≡_};
@@ -14,7 +15,9 @@ ghost use Prim.Native.Nat.{ℕ, _+_, _*_, _<_, _≤_};
 ghost use lib.ListN.{length, drop, set};
 ghost use Rattle.rules.specs.Limits.{maxVariable, maxClauses};
 ghost use Rattle.rules.specs.Text.{tokens};
+ghost use Rattle.writer.specs.Text.{Formed, formulaOf};
 ghost use Rattle.formula.specs.Reading.{Ended, Behind, Finishes, ReadsRest, Reads};
+ghost use Rattle.formula.specs.Writing.{WritesStored, Writes};
 
 // What reading a formula came to. `Stored`: V, the number of clauses, how many literals they have, and the greatest variable
 // that occurs. Otherwise: the place in the text where it stopped, and what had been stored by then.
@@ -146,5 +149,40 @@ pub fn read(formula: &[u8], heads: &mut [u64], lits: &mut [u32]) -> FormulaRead
             used: 0,
             closed: 0,
         },
+    }
+}
+
+// What writing a formula came to: how many bytes were written; or why nothing was.
+pub enum FormulaWritten {
+    Whole { length: usize },
+    Unreadable { at: usize },
+    StoreTooShort { at: usize },
+    OutputTooShort,
+}
+
+// The formula that lies in the store goes to the output, if it fits; else the output stays as it was.
+fn write_stored(heads: &[u64], lits: &[u32], n: usize, vars: u64, out: &mut [u8]) -> FormulaWritten
+    requires { ⌜ Formed (now heads) (now lits) n ⌝ }
+    ensures { λ r. ⌜ WritesStored (formulaOf (now (heads .entry)) (now (lits .entry)) n vars) (now (out .entry)) (now (out .exit)) r ⌝ }
+{
+    let f = writer::written_length(heads, lits, n, vars, out.len());
+    match f {
+        Fit::Whole { length, turns } => {
+            writer::write_formula(heads, lits, n, vars, out);
+            FormulaWritten::Whole { length: length }
+        }
+        Fit::TooLong { turns } => FormulaWritten::OutputTooShort,
+    }
+}
+
+// Reads a formula and writes it out: one clause to a line, no comments.
+pub fn write(formula: &[u8], heads: &mut [u64], lits: &mut [u32], out: &mut [u8]) -> FormulaWritten
+    ensures { λ r. ⌜ Writes (now (formula .entry)) (now (heads .entry)) (now (lits .entry)) (now (out .entry)) (now (out .exit)) r ⌝ }
+{
+    let r = read(formula, heads, lits);
+    match r {
+        FormulaRead::Stored { vars, clauses, used, top } => write_stored(heads, lits, clauses, vars, out),
+        FormulaRead::Unreadable { at, used, closed } => FormulaWritten::Unreadable { at: at },
+        FormulaRead::TooShort { at, used, closed } => FormulaWritten::StoreTooShort { at: at },
     }
 }
