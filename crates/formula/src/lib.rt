@@ -7,9 +7,9 @@ mod body;
 mod opening;
 
 use body::BodyRead;
-use writer::Fit;
 use opening::Header;
 use text::Token;
+use writer::Fit;
 ghost use mathlib.Core.Path.{_≡_};
 ghost use Prim.Native.Nat.{ℕ, _+_, _*_, _<_, _≤_};
 ghost use lib.ListN.{length, drop, set};
@@ -181,7 +181,12 @@ pub fn write(formula: &[u8], heads: &mut [u64], lits: &mut [u32], out: &mut [u8]
 {
     let r = read(formula, heads, lits);
     match r {
-        FormulaRead::Stored { vars, clauses, used, top } => write_stored(heads, lits, clauses, vars, out),
+        FormulaRead::Stored {
+            vars,
+            clauses,
+            used,
+            top,
+        } => write_stored(heads, lits, clauses, vars, out),
         FormulaRead::Unreadable { at, used, closed } => FormulaWritten::Unreadable { at: at },
         FormulaRead::TooShort { at, used, closed } => FormulaWritten::StoreTooShort { at: at },
     }

@@ -19,7 +19,12 @@ fn wide(x: u32) -> u64 {
 
 fn show_read(r: FormulaRead) {
     match r {
-        FormulaRead::Stored { vars, clauses, used, top } => {
+        FormulaRead::Stored {
+            vars,
+            clauses,
+            used,
+            top,
+        } => {
             say(b": stored, V C literals greatest");
             say_number(vars);
             say_number(clauses::count(clauses));

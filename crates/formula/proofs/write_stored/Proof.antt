@@ -15,7 +15,7 @@ enum-known-f : tie.Need-enum-known-f
 enum-known-f c = search needs
 
 write-formula-requires : tie.Need-write-formula-requires
-write-formula-requires c κs = 
+write-formula-requires c κs =
     let a = c .before .before .before .before .before .before .before .before .args in
     let fits = whole-says {need = lengthOf (a .heads .now) (a .lits .now) (a .n) (a .vars)} {room = length (a .out .now)} (c .before .before .before .before .written-length .ensures) (c .before .before .f .given .1) in
     (c .before .before .before .before .before .before .before .before .pre, omega (arith, fits .exact, fits .fits))
@@ -27,12 +27,12 @@ same-length : tie.Need-same-length
 same-length c = search needs
 
 returns : tie.Need-returns
-returns c = 
+returns c =
     let a = c .before .before .before .before .before .before .before .before .before .before .before .args in
     stored-whole _ _ _ _ _ _ _ _ (whole-says {need = lengthOf (a .heads .now) (a .lits .now) (a .n) (a .vars)} {room = length (a .out .now)} (c .before .before .before .before .before .before .before .written-length .ensures) (c .before .before .before .before .before .f .given .1)) (c .before .before .write-formula .ensures)
 
 returns-2 : tie.Need-returns-2
-returns-2 c = 
+returns-2 c =
     let a = c .before .before .before .before .before .before .before .args in
     stored-long _ _ _ (too-long-says {need = lengthOf (a .heads .now) (a .lits .now) (a .n) (a .vars)} {room = length (a .out .now)} (c .before .before .before .written-length .ensures) (c .before .f2 .given .1))
 
