@@ -12,8 +12,8 @@ use lib.ListN.{length, drop, getD}
 use Rattle.meaning.proofs.Truth.{bool-cases}
 use Rattle.rules.specs.Text.{isBlank, isDigit, digits, positive, word}
 use Rattle.rules.proofs.Words.{digit-range, digit-not-blank}
-use Rattle.text.specs.Scan.{most, endsWord, sized, Numbered, Positive}
-use Rattle.text.proofs.Places.{word-end, word-on, word-stop, ends-empty, ends-end, ends-not, digit-by}
+use Rattle.text.specs.Scan.{most, endsWord, sized, Stops, Numbered, Ran, Positive}
+use Rattle.text.proofs.Places.{word-end, word-on, word-stop, ends-empty, ends-end, ends-not, digit-by, no-digit-below, no-digit-above}
 
 -- Sized numbers
 
@@ -38,26 +38,28 @@ module _ (s : List ℕ) (i v : ℕ) where
   -- The word ends there.
   pub numbered-end : v ≤ most → endsWord (drop i s) ≡ true → Numbered v i (drop i s) v i
   unfolding digits
-  numbered-end h e = record { is-value = rw (ends-empty s i e) (small-sized v h); is-next = omega (arith, ap length (ends-empty s i e)) }
+  numbered-end h e = record { is-value = rw (ends-empty s i e) (small-sized v h); is-next = λ z. omega (arith, ap length (ends-empty s i e)) }
 
   pub numbered-past : v ≤ most → length s ≤ i → Numbered v i (drop i s) v i
   numbered-past h l = numbered-end h (ends-end s i l)
 
   -- A byte stands there that is no digit and ends no word.
-  pub numbered-bad : (n : ℕ) → (i < length s → isDigit (getD s i 0) ≡ false) → endsWord (drop i s) ≡ false → n ≡ i + length (word (drop i s)) → Numbered v i (drop i s) 0 n
+  pub numbered-bad : (n : ℕ) → Stops s i → endsWord (drop i s) ≡ false → Numbered v i (drop i s) 0 n
   unfolding digits
-  numbered-bad n d e q =
+  numbered-bad n d e =
       let g = ends-not s i e in
-      record { is-value = rw (word-on s i (g .0) (g .1), d (g .0), digits); is-next = q }
+      record { is-value = rw (word-on s i (g .0) (g .1), d .stops (g .0), digits); is-next = λ z. absurd (z refl) }
 
   -- A digit stands there.
   pub numbered-on : (x n : ℕ) → i < length s → isDigit (getD s i 0) ≡ true → Numbered (v * 10 + (getD s i 0 - 48)) (i + 1) (drop (i + 1) s) x n → Numbered v i (drop i s) x n
   unfolding digits
   numbered-on x n h d r =
       let w = word-on s i h (digit-not-blank (getD s i 0) d) in
-      record { is-value = rw (w, d, digits) (r .is-value); is-next = omega (arith, ap length w, r .is-next) }
+      record { is-value = rw (w, d, digits) (r .is-value); is-next = λ z. omega (arith, ap length w, r .is-next z) }
 
--- A scan of digits that began at `from` with `first`: what it finds from i on with v is what it finds from there.
+-- A run of digits
+
+-- Where a run stands that has not gone above `most`: what is found from i on with v is what is found from the start.
 pub record Digits (s : List ℕ) (first from v i : ℕ) : Type 0 where
   pub small : v ≤ most
   pub back : (x n : ℕ) → Numbered v i (drop i s) x n → Numbered first from (drop from s) x n
@@ -65,34 +67,51 @@ pub record Digits (s : List ℕ) (first from v i : ℕ) : Type 0 where
 pub digits-start : (s : List ℕ) (first from : ℕ) → first ≤ most → Digits s first from first from
 digits-start s first from h = record { small = h; back = λ x n r. r }
 
-module _ (s : List ℕ) (first from v i : ℕ) (d : Digits s first from v i) (h : i < length s) (lo : 48 ≤ getD s i 0) (hi : getD s i 0 ≤ 57) where
-  pub digits-on : v * 10 + (getD s i 0 - 48) ≤ most → Digits s first from (v * 10 + (getD s i 0 - 48)) (i + 1)
-  digits-on small = record { small = small; back = λ x n r. d .back x n (numbered-on s i v x n h (digit-by (getD s i 0) lo hi) r) }
+module _ (s : List ℕ) (first from v i : ℕ) (d : Digits s first from v i) where
+  pub ran-past : length s ≤ i → Ran s first from v i
+  ran-past l = record { back = d .back; stops = λ h. record { stops = λ k. absurd (omega arith) } }
 
-  -- The number is above `most` now, and the rest of it was found from `most` on.
-  pub digits-long : (x n : ℕ) → most < v * 10 + (getD s i 0 - 48) → Numbered most (i + 1) (drop (i + 1) s) x n → Numbered first from (drop from s) x n
-  digits-long x n big r =
-      d .back x n (numbered-on s i v x n h (digit-by (getD s i 0) lo hi) (numbered-high most (v * 10 + (getD s i 0 - 48)) (i + 1) (drop (i + 1) s) x n (omega arith) (omega arith) r))
+  pub ran-below : getD s i 0 < 48 → Ran s first from v i
+  ran-below b = record { back = d .back; stops = λ h. record { stops = λ k. no-digit-below (getD s i 0) b } }
 
-  -- The same where the scan stays at `most`.
-  pub digits-stay : v ≡ most → Digits s first from most (i + 1)
-  digits-stay e =
-      record {
-        small = omega arith;
-        back = λ x n r. d .back x n (numbered-on s i v x n h (digit-by (getD s i 0) lo hi) (numbered-high most (v * 10 + (getD s i 0 - 48)) (i + 1) (drop (i + 1) s) x n (omega arith) (omega arith) r));
-      }
+  pub ran-above : 57 < getD s i 0 → Ran s first from v i
+  ran-above b = record { back = d .back; stops = λ h. record { stops = λ k. no-digit-above (getD s i 0) b } }
+
+  module _ (h : i < length s) (lo : 48 ≤ getD s i 0) (hi : getD s i 0 ≤ 57) where
+    pub digits-on : v * 10 + (getD s i 0 - 48) ≤ most → Digits s first from (v * 10 + (getD s i 0 - 48)) (i + 1)
+    digits-on small = record { small = small; back = λ x n r. d .back x n (numbered-on s i v x n h (digit-by (getD s i 0) lo hi) r) }
+
+    -- The number is above `most` now.
+    pub ran-long : most < v * 10 + (getD s i 0 - 48) → Ran s first from (v * 10 + (getD s i 0 - 48)) (i + 1)
+    ran-long big =
+        record {
+          back = λ x n r. d .back x n (numbered-on s i v x n h (digit-by (getD s i 0) lo hi) r);
+          stops = λ small. absurd (omega arith);
+        }
+
+    -- A run that stays at `most`.
+    pub digits-stay : v ≡ most → Digits s first from most (i + 1)
+    digits-stay e =
+        record {
+          small = omega arith;
+          back = λ x n r. d .back x n (numbered-on s i v x n h (digit-by (getD s i 0) lo hi) (numbered-high most (v * 10 + (getD s i 0 - 48)) (i + 1) (drop (i + 1) s) x n (omega arith) (omega arith) r));
+        }
+
+-- Behind a run above `most`, what was found from `most` on.
+pub ran-high : (s : List ℕ) (first from v i x n : ℕ) → Ran s first from v i → most < v → Numbered most i (drop i s) x n → Numbered first from (drop from s) x n
+ran-high s first from v i x n r big q = r .back x n (numbered-high most v i (drop i s) x n (omega arith) (omega arith) q)
 
 -- A positive number
 
 module _ (s : List ℕ) (at : ℕ) where
   pub positive-past : length s ≤ at → Positive at (drop at s) 0 at
   unfolding positive
-  positive-past l = record { is-value = rw (word-end s at l); is-next = omega (arith, ap length (word-end s at l)) }
+  positive-past l = record { is-value = rw (word-end s at l); is-next = λ z. absurd (z refl) }
 
   -- The first byte is no digit from 1 to 9.
-  pub positive-bad : (n : ℕ) → at < length s → (48 < getD s at 0 → 57 < getD s at 0) → n ≡ at + length (word (drop at s)) → Positive at (drop at s) 0 n
+  pub positive-bad : (n : ℕ) → at < length s → (48 < getD s at 0 → 57 < getD s at 0) → Positive at (drop at s) 0 n
   unfolding positive digits
-  positive-bad n h b q = record { is-value = bool-cases (isBlank (getD s at 0)) blank other; is-next = q }
+  positive-bad n h b = record { is-value = bool-cases (isBlank (getD s at 0)) blank other; is-next = λ z. absurd (z refl) }
     where
       blank : isBlank (getD s at 0) ≡ true → 0 ≡ sized (positive (word (drop at s)))
       blank y = rw (word-stop s at h y)
@@ -117,5 +136,5 @@ module _ (s : List ℕ) (at : ℕ) where
       let z : 0 * 10 + (getD s at 0 - 48) ≡ getD s at 0 - 48 = omega arith in
       record {
         is-value = rw (w, ne-eqb (getD s at 0) 48 (λ q. omega arith), positive, d, digits, z) (r .is-value);
-        is-next = omega (arith, ap length w, r .is-next);
+        is-next = λ z. omega (arith, ap length w, r .is-next z);
       }

@@ -8,9 +8,10 @@ use native.Mathlib.Omega.{arith}
 use borrow.Author.Tests.{ne-eqb}
 use lib.ListN.{length, drop, getD}
 use lib.Seq.{drop-drop}
+use Rattle.meaning.proofs.Truth.{clash}
 use Rattle.rules.specs.Text.{isBlank, isDigit, digits, positive, signed, sameBytes, token, word}
 use Rattle.rules.proofs.Words.{positive-above-0}
-use Rattle.text.specs.Scan.{most, blanks, endsWord, sized, Positive, tokenOf, OneByte, Plain, Wording, Scans}
+use Rattle.text.specs.Scan.{most, blanks, endsWord, sized, Positive, tokenOf, OneByte, Plain, Guessing, Wording, Scans, isOther}
 use Rattle.text.specs.declared.Token.{Token}
 use Rattle.text.specs.declared.Token.the-variants.{Nought, Plus, Minus, LetterD, Other, Nothing}
 use Rattle.text.proofs.Places.{word-end, word-on, ends-empty, ends-not}
@@ -41,18 +42,18 @@ module _ (s : List ℕ) (at : ℕ) (h : at < length s) where
   byte-other b Other e x w = absurd e
   byte-other b Nothing e x w = absurd e
 
-  pub one-ends : (t : Token) → OneByte (getD s at 0) t → endsWord (drop (at + 1) s) ≡ true → Wording at (drop at s) t (at + 1)
+  pub one-ends : (t : Token) → OneByte (getD s at 0) t → endsWord (drop (at + 1) s) ≡ true → Guessing at (drop at s) t (at + 1)
   one-ends t o e =
       let b = byte-token (getD s at 0) t o in
       let w = word-on s at h (b .0) ∙ ap (λ (r : List ℕ). getD s at 0 ∷ r) (ends-empty s (at + 1) e) in
-      record { is-token = rw w (b .1); is-next = omega (arith, ap length w) }
+      record { is-token = rw w (b .1); is-next = λ z. omega (arith, ap length w) }
 
-  pub one-other : (t : Token) (n : ℕ) → OneByte (getD s at 0) t → endsWord (drop (at + 1) s) ≡ false → n ≡ at + 1 + length (word (drop (at + 1) s)) → Wording at (drop at s) Other n
-  one-other t n o e q =
+  pub one-other : (t : Token) (n : ℕ) → OneByte (getD s at 0) t → endsWord (drop (at + 1) s) ≡ false → Guessing at (drop at s) Other n
+  one-other t n o e =
       let b = byte-token (getD s at 0) t o in
       let g = ends-not s (at + 1) e in
       let w = word-on s at h (b .0) ∙ ap (λ (r : List ℕ). getD s at 0 ∷ r) (word-on s (at + 1) (g .0) (g .1)) in
-      record { is-token = rw w (byte-other (getD s at 0) t o _ _); is-next = omega (arith, q, ap length (word-on s at h (b .0))) }
+      record { is-token = rw w (byte-other (getD s at 0) t o _ _); is-next = λ z. absurd (z refl) }
 
   -- A sign.
 
@@ -68,20 +69,20 @@ module _ (s : List ℕ) (at : ℕ) (h : at < length s) where
   unfolding tokenOf token signed
   minus-none w q = rw (q, signed)
 
-  pub sign-other : (v n : ℕ) → getD s at 0 ≡ 45 → Positive (at + 1) (drop (at + 1) s) v n → v ≡ 0 → Wording at (drop at s) Other n
+  pub sign-other : (v n : ℕ) → getD s at 0 ≡ 45 → Positive (at + 1) (drop (at + 1) s) v n → v ≡ 0 → Guessing at (drop at s) Other n
   sign-other v n e p z =
       let w = sign-word e in
       let q = sized-none (positive (word (drop (at + 1) s))) (word (drop (at + 1) s)) refl (sym (p .is-value) ∙ z) in
-      record { is-token = rw w (sym (minus-none (word (drop (at + 1) s)) q)); is-next = omega (arith, ap length w, p .is-next) }
+      record { is-token = rw w (sym (minus-none (word (drop (at + 1) s)) q)); is-next = λ f. absurd (f refl) }
 
-  pub sign-minus : (v n : ℕ) → getD s at 0 ≡ 45 → Positive (at + 1) (drop (at + 1) s) v n → (v ≡ 0 → ⊥) → Wording at (drop at s) (Minus v) n
+  pub sign-minus : (v n : ℕ) → getD s at 0 ≡ 45 → Positive (at + 1) (drop (at + 1) s) v n → (v ≡ 0 → ⊥) → Guessing at (drop at s) (Minus v) n
   sign-minus v n e p z = go (positive (word (drop (at + 1) s))) refl
     where
-      go : (o : Option ℕ) → positive (word (drop (at + 1) s)) ≡ o → Wording at (drop at s) (Minus v) n
+      go : (o : Option ℕ) → positive (word (drop (at + 1) s)) ≡ o → Guessing at (drop at s) (Minus v) n
       go none q = absurd (z (p .is-value ∙ rw q))
       go (some m) q =
           let w = sign-word e in
-          record { is-token = rw w (ap Minus (p .is-value ∙ rw q) ∙ sym (minus-some (word (drop (at + 1) s)) m q)); is-next = omega (arith, ap length w, p .is-next) }
+          record { is-token = rw w (ap Minus (p .is-value ∙ rw q) ∙ sym (minus-some (word (drop (at + 1) s)) m q)); is-next = λ f. omega (arith, ap length w, p .is-next z) }
 
   -- Any other byte.
 
@@ -97,20 +98,36 @@ module _ (s : List ℕ) (at : ℕ) (h : at < length s) where
   unfolding tokenOf signed
   plus-none w p q = rw (plus-token w p, q, signed)
 
-  pub plain-other : (v n : ℕ) → Plain (getD s at 0) → Positive at (drop at s) v n → v ≡ 0 → Wording at (drop at s) Other n
+  pub plain-other : (v n : ℕ) → Plain (getD s at 0) → Positive at (drop at s) v n → v ≡ 0 → Guessing at (drop at s) Other n
   plain-other v n b p z =
       let w = word-on s at h (b .no-blank) in
       let q = sized-none (positive (word (drop at s))) (word (drop at s)) refl (sym (p .is-value) ∙ z) in
-      record { is-token = rw w (sym (plus-none (word (drop (at + 1) s)) b (rw w at q))); is-next = p .is-next }
+      record { is-token = rw w (sym (plus-none (word (drop (at + 1) s)) b (rw w at q))); is-next = λ f. absurd (f refl) }
 
-  pub plain-plus : (v n : ℕ) → Plain (getD s at 0) → Positive at (drop at s) v n → (v ≡ 0 → ⊥) → Wording at (drop at s) (Plus v) n
+  pub plain-plus : (v n : ℕ) → Plain (getD s at 0) → Positive at (drop at s) v n → (v ≡ 0 → ⊥) → Guessing at (drop at s) (Plus v) n
   plain-plus v n b p z = go (positive (word (drop at s))) refl
     where
-      go : (o : Option ℕ) → positive (word (drop at s)) ≡ o → Wording at (drop at s) (Plus v) n
+      go : (o : Option ℕ) → positive (word (drop at s)) ≡ o → Guessing at (drop at s) (Plus v) n
       go none q = absurd (z (p .is-value ∙ rw q))
       go (some m) q =
           let w = word-on s at h (b .no-blank) in
-          record { is-token = rw w (ap Plus (p .is-value ∙ rw q) ∙ sym (plus-some (word (drop (at + 1) s)) m b (rw w at q))); is-next = p .is-next }
+          record { is-token = rw w (ap Plus (p .is-value ∙ rw q) ∙ sym (plus-some (word (drop (at + 1) s)) m b (rw w at q))); is-next = λ f. p .is-next z }
+
+-- Where another word ends.
+
+pub settle-other : (s : List ℕ) (at : ℕ) (t : Token) (next n : ℕ) → Guessing at (drop at s) t next → isOther t ≡ true → n ≡ at + length (word (drop at s)) → Wording at (drop at s) Other n
+settle-other s at t next n g y e = record { is-token = sym (other-is t y) ∙ g .is-token; is-next = e }
+  where
+    other-is : (u : Token) → isOther u ≡ true → u ≡ Other
+    other-is Nought q = absurd (clash q refl)
+    other-is (Plus k) q = absurd (clash q refl)
+    other-is (Minus k) q = absurd (clash q refl)
+    other-is LetterD q = absurd (clash q refl)
+    other-is Other q = refl
+    other-is Nothing q = absurd (clash q refl)
+
+pub settle-found : (s : List ℕ) (at : ℕ) (t : Token) (next : ℕ) → Guessing at (drop at s) t next → isOther t ≡ false → Wording at (drop at s) t next
+settle-found s at t next g f = record { is-token = g .is-token; is-next = g .is-next (λ q. clash (ap isOther q) f) }
 
 -- Behind the blanks.
 

@@ -1,10 +1,10 @@
 -- What the functions of this crate find at a place of a text, in terms of document 01's definitions (rules' Text).
-use Prim.Native.Nat.{ℕ, suc, _+_, min}
+use Prim.Native.Nat.{ℕ, suc, _+_, _≤_, _<_, min}
 use mathlib.Core.Path.{_≡_}
 use mathlib.Core.Bool.{Bool, true, false, _&&_}
 use mathlib.Core.List.{List, [], _∷_}
 use mathlib.Core.Option.{Option, none, some}
-use lib.ListN.{length, drop}
+use lib.ListN.{length, drop, getD}
 use Rattle.rules.specs.Text.{isBlank, isDigit, digits, positive, Token, nought, plus, minus, letterD, other, token, word}
 use Rattle.text.specs.declared.Token.{Token as Scanned}
 use Rattle.text.specs.declared.Token.the-variants.{Nought, Plus, Minus, LetterD, Other, Nothing}
@@ -30,10 +30,20 @@ abbrev pub sized : Option ℕ → ℕ
 sized none = 0
 sized (some n) = min n most
 
--- The number whose digits say v up to the place `at`, where the text goes on with s; and the place behind the word.
+-- No digit stands at the place i.
+pub record Stops (s : List ℕ) (i : ℕ) : Type 0 where
+  pub stops : i < length s → isDigit (getD s i 0) ≡ false
+
+-- The number whose digits say v up to the place `at`, where the text goes on with s; and, if it is one, the place behind it.
 pub record Numbered (v at : ℕ) (s : List ℕ) (value next : ℕ) : Type 0 where
   pub is-value : value ≡ sized (digits v (word s))
-  pub is-next : next ≡ at + length (word s)
+  pub is-next : (value ≡ 0 → ⊥) → next ≡ at + length (word s)
+
+-- From `from`, where the digits before it said `first`, a run of digits goes up to i and says v: what is found from there on is
+-- what is found from the start on. It ends at the last digit, unless v is above `most`.
+pub record Ran (s : List ℕ) (first from v i : ℕ) : Type 0 where
+  pub back : (x n : ℕ) → Numbered v i (drop i s) x n → Numbered first from (drop from s) x n
+  pub stops : v ≤ most → Stops s i
 
 -- A token as this crate gives it.
 abbrev pub capped : Token → Scanned
@@ -49,10 +59,23 @@ unfolding token
 tokenOf [] = Nothing
 tokenOf (b ∷ w) = capped (token (b ∷ w))
 
--- The word that the text s begins with, at the place `at`, as a positive number; and the place behind it.
+-- The word that the text s begins with, at the place `at`, as a positive number; and, if it is one, the place behind it.
 pub record Positive (at : ℕ) (s : List ℕ) (value next : ℕ) : Type 0 where
   pub is-value : value ≡ sized (positive (word s))
-  pub is-next : next ≡ at + length (word s)
+  pub is-next : (value ≡ 0 → ⊥) → next ≡ at + length (word s)
+
+-- The same as a token; and, if it is a number or a letter, the place behind it.
+pub record Guessing (at : ℕ) (s : List ℕ) (t : Scanned) (next : ℕ) : Type 0 where
+  pub is-token : t ≡ tokenOf (word s)
+  pub is-next : (t ≡ Other → ⊥) → next ≡ at + length (word s)
+
+abbrev pub isOther : Scanned → Bool
+isOther Nought = false
+isOther (Plus n) = false
+isOther (Minus n) = false
+isOther LetterD = false
+isOther Other = true
+isOther Nothing = false
 
 -- The word that the text s begins with, at the place `at`, as a token; and the place behind it.
 pub record Wording (at : ℕ) (s : List ℕ) (t : Scanned) (next : ℕ) : Type 0 where

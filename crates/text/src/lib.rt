@@ -9,7 +9,7 @@ ghost use mathlib.Core.Bool.{false};
 ghost use Prim.Native.Nat.{ℕ, _+_, _*_, _<_, _≤_};
 ghost use lib.ListN.{length, drop, getD};
 ghost use Rattle.rules.specs.Text.{isBlank, isDigit, word};
-ghost use Rattle.text.specs.Scan.{most, blanks, endsWord, Numbered, Positive, OneByte, Plain, Wording, Scans};
+ghost use Rattle.text.specs.Scan.{most, blanks, endsWord, Stops, Numbered, Ran, Positive, OneByte, Plain, Guessing, Wording, Scans, isOther};
 
 // A token. A number is given by its size, at most 10^18. `Nothing` is the end of the text.
 pub enum Token {
@@ -27,7 +27,7 @@ pub struct Scanned {
     pub next: usize,
 }
 
-// A number, or 0 for none, and the place behind the word.
+// A number and the place behind its digits; 0 for none, and then the place says nothing.
 pub struct Number {
     pub value: u64,
     pub next: usize,
@@ -95,37 +95,64 @@ fn ends_word(s: &[u8], at: usize) -> bool
 // A number v whose digits end before `at`: it is one only if the word ends there, too.
 fn finish(s: &[u8], at: usize, v: u64) -> Number
     requires { ⌜ v ≤ most ⌝ }
-    requires { ⌜ (at < length (now s) → isDigit (getD (now s) at 0) ≡ false) ⌝ }
+    requires { ⌜ Stops (now s) at ⌝ }
     ensures { λ r. ⌜ Numbered v at (drop at (now (s .entry))) (r .value) (r .next) ⌝ }
 {
     if ends_word(s, at) {
         return Number { value: v, next: at };
     }
-    Number {
-        value: 0,
-        next: word_end(s, at),
+    Number { value: 0, next: at }
+}
+
+// The first place from `from` on that has no digit.
+fn skip_digits(s: &[u8], from: usize) -> usize
+    ensures { λ r. ⌜ Ran (now (s .entry)) most from most r ⌝ }
+{
+    let mut i = from;
+    while i < s.len() {
+        let b = s[i];
+        if b < 48 {
+            return i;
+        }
+        if 57 < b {
+            return i;
+        }
+        i += 1;
     }
+    i
 }
 
 // A number that is above `most` already, and goes on at `from`.
 fn long(s: &[u8], from: usize) -> Number
     ensures { λ r. ⌜ Numbered most from (drop from (now (s .entry))) (r .value) (r .next) ⌝ }
 {
+    let i = skip_digits(s, from);
+    finish(s, i, 1000000000000000000)
+}
+
+// The digits from `from` on, behind a number that is `first` so far: up to the last one, or until it is above `most`. Nothing
+// else is done here, so that the loop keeps all it needs in registers.
+fn run(s: &[u8], from: usize, first: u64) -> Number
+    requires { ⌜ first ≤ most ⌝ }
+    ensures { λ r. ⌜ Ran (now (s .entry)) first from (r .value) (r .next) ⌝ }
+{
+    let mut v = first;
     let mut i = from;
     while i < s.len() {
         let b = s[i];
         if b < 48 {
-            return finish(s, i, 1000000000000000000);
+            return Number { value: v, next: i };
         }
         if 57 < b {
-            return finish(s, i, 1000000000000000000);
+            return Number { value: v, next: i };
         }
+        v = v * 10 + wide(b - 48);
         i += 1;
+        if 1000000000000000000 < v {
+            return Number { value: v, next: i };
+        }
     }
-    Number {
-        value: 1000000000000000000,
-        next: i,
-    }
+    Number { value: v, next: i }
 }
 
 // A number that is `first` so far, and goes on at `from`.
@@ -133,23 +160,13 @@ fn digits_from(s: &[u8], from: usize, first: u64) -> Number
     requires { ⌜ first ≤ most ⌝ }
     ensures { λ r. ⌜ Numbered first from (drop from (now (s .entry))) (r .value) (r .next) ⌝ }
 {
-    let mut v = first;
-    let mut i = from;
-    while i < s.len() {
-        let b = s[i];
-        if b < 48 {
-            return finish(s, i, v);
-        }
-        if 57 < b {
-            return finish(s, i, v);
-        }
-        v = v * 10 + wide(b - 48);
-        i += 1;
-        if 1000000000000000000 < v {
-            return long(s, i);
-        }
+    let r = run(s, from, first);
+    let v = r.value;
+    let i = r.next;
+    if 1000000000000000000 < v {
+        return long(s, i);
     }
-    Number { value: v, next: i }
+    finish(s, i, v)
 }
 
 // The word at `at` as a positive number: digits without a leading zero.
@@ -161,16 +178,10 @@ fn positive(s: &[u8], at: usize) -> Number
     }
     let b = s[at];
     if b < 49 {
-        return Number {
-            value: 0,
-            next: word_end(s, at),
-        };
+        return Number { value: 0, next: at };
     }
     if 57 < b {
-        return Number {
-            value: 0,
-            next: word_end(s, at),
-        };
+        return Number { value: 0, next: at };
     }
     digits_from(s, at + 1, wide(b - 48))
 }
@@ -178,7 +189,7 @@ fn positive(s: &[u8], at: usize) -> Number
 // A token of one byte at `at`, unless the word goes on.
 fn one_byte(s: &[u8], at: usize, t: Token) -> Scanned
     requires { ⌜ (at < length (now s)) × OneByte (getD (now s) at 0) t ⌝ }
-    ensures { λ r. ⌜ Wording at (drop at (now (s .entry))) (r .token) (r .next) ⌝ }
+    ensures { λ r. ⌜ Guessing at (drop at (now (s .entry))) (r .token) (r .next) ⌝ }
 {
     let next = at + 1;
     if ends_word(s, next) {
@@ -189,14 +200,14 @@ fn one_byte(s: &[u8], at: usize, t: Token) -> Scanned
     }
     Scanned {
         token: Token::Other,
-        next: word_end(s, next),
+        next: next,
     }
 }
 
 // A negative number, whose sign stands at `at`.
 fn negative(s: &[u8], at: usize) -> Scanned
     requires { ⌜ (at < length (now s)) × (getD (now s) at 0 ≡ 45) ⌝ }
-    ensures { λ r. ⌜ Wording at (drop at (now (s .entry))) (r .token) (r .next) ⌝ }
+    ensures { λ r. ⌜ Guessing at (drop at (now (s .entry))) (r .token) (r .next) ⌝ }
 {
     let n = positive(s, at + 1);
     let v = n.value;
@@ -216,7 +227,7 @@ fn negative(s: &[u8], at: usize) -> Scanned
 // A positive number, or another word, at `at`.
 fn plain(s: &[u8], at: usize) -> Scanned
     requires { ⌜ (at < length (now s)) × Plain (getD (now s) at 0) ⌝ }
-    ensures { λ r. ⌜ Wording at (drop at (now (s .entry))) (r .token) (r .next) ⌝ }
+    ensures { λ r. ⌜ Guessing at (drop at (now (s .entry))) (r .token) (r .next) ⌝ }
 {
     let n = positive(s, at);
     let v = n.value;
@@ -233,10 +244,10 @@ fn plain(s: &[u8], at: usize) -> Scanned
     }
 }
 
-// The word at `at`, where there is no blank, as a token.
+// The word at `at`, where there is no blank, as a token. If it is another word, its end is still to be found.
 fn word_at(s: &[u8], at: usize) -> Scanned
     requires { ⌜ (at < length (now s)) × (isBlank (getD (now s) at 0) ≡ false) ⌝ }
-    ensures { λ r. ⌜ Wording at (drop at (now (s .entry))) (r .token) (r .next) ⌝ }
+    ensures { λ r. ⌜ Guessing at (drop at (now (s .entry))) (r .token) (r .next) ⌝ }
 {
     let b = s[at];
     if b == 48 {
@@ -251,6 +262,34 @@ fn word_at(s: &[u8], at: usize) -> Scanned
     plain(s, at)
 }
 
+fn is_other(t: Token) -> bool
+    ensures { λ r. ⌜ r ≡ isOther t ⌝ }
+{
+    match t {
+        Token::Other => true,
+        Token::Nought => false,
+        Token::Plus(_) => false,
+        Token::Minus(_) => false,
+        Token::LetterD => false,
+        Token::Nothing => false,
+    }
+}
+
+// The end of another word is found here and nowhere else: the code for it stands once, out of the way of the others.
+fn settle(s: &[u8], at: usize, found: Scanned) -> Scanned
+    requires { ⌜ Guessing at (drop at (now s)) (found .token) (found .next) ⌝ }
+    ensures { λ r. ⌜ Wording at (drop at (now (s .entry))) (r .token) (r .next) ⌝ }
+{
+    let t = found.token;
+    if is_other(t) {
+        return Scanned {
+            token: Token::Other,
+            next: word_end(s, at),
+        };
+    }
+    found
+}
+
 // The first token from `at` on, and the place behind it.
 pub fn token_at(s: &[u8], at: usize) -> Scanned
     ensures { λ r. ⌜ Scans at (drop at (now (s .entry))) (r .token) (r .next) ⌝ }
@@ -262,5 +301,6 @@ pub fn token_at(s: &[u8], at: usize) -> Scanned
             next: p,
         };
     }
-    word_at(s, p)
+    let found = word_at(s, p);
+    settle(s, p, found)
 }

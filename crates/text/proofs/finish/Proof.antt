@@ -11,11 +11,8 @@ ends-word-requires c κs = search needs
 returns : tie.Need-returns
 returns c = numbered-end _ _ _ (c .before .before .before .pre .0) (sym (c .before .ends-word .ensures) ∙ c .if1 .taken)
 
-word-end-requires : tie.Need-word-end-requires
-word-end-requires c κs = search needs
-
 returns-2 : tie.Need-returns-2
-returns-2 c = numbered-bad _ _ _ _ (c .before .before .before .before .pre .1) (sym (c .before .before .ends-word .ensures) ∙ c .before .if1 .left) (c .word-end .ensures)
+returns-2 c = numbered-bad _ _ _ _ (c .before .before .before .pre .1) (sym (c .before .ends-word .ensures) ∙ c .if1 .left)
 
 pub finish-spec : {M : Type 1} → statement M
-finish-spec = tie.close (tie.spec ends-word-requires returns word-end-requires returns-2)
+finish-spec = tie.close (tie.spec ends-word-requires returns returns-2)

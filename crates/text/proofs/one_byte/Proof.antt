@@ -14,12 +14,8 @@ ends-word-requires c κs = search needs
 returns : tie.Need-returns
 returns c = one-ends _ _ (c .before .before .before .pre .0) _ (c .before .before .before .pre .1) (sym (c .before .ends-word .ensures) ∙ c .if1 .taken)
 
-word-end-requires : tie.Need-word-end-requires
-word-end-requires c κs = search needs
-
 returns-2 : tie.Need-returns-2
-returns-2 c = one-other _ _ (c .before .before .before .before .pre .0) (c .before .before .before .before .args .t) _ (c .before .before .before .before .pre .1) (sym (c .before .before .ends-word .ensures) ∙ c .before .if1 .left) (c .word-end .ensures)
+returns-2 c = one-other _ _ (c .before .before .before .pre .0) (c .before .before .before .args .t) _ (c .before .before .before .pre .1) (sym (c .before .ends-word .ensures) ∙ c .if1 .left)
 
 pub one-byte-spec : {M : Type 1} → statement M
-one-byte-spec =
-    tie.close (tie.spec add-next ends-word-requires returns word-end-requires returns-2)
+one-byte-spec = tie.close (tie.spec add-next ends-word-requires returns returns-2)

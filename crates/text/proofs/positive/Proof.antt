@@ -12,17 +12,11 @@ returns c = positive-past _ _ (c .if1 .taken)
 shared-slice-read-b : tie.Need-shared-slice-read-b
 shared-slice-read-b c = search needs
 
-word-end-requires : tie.Need-word-end-requires
-word-end-requires c κs = search needs
-
 returns-2 : tie.Need-returns-2
-returns-2 c = positive-bad _ _ _ (c .before .before .before .if1 .left) (λ h. absurd (omega (arith, c .before .if2 .taken))) (c .word-end .ensures)
-
-word-end-requires-2 : tie.Need-word-end-requires-2
-word-end-requires-2 c κs = search needs
+returns-2 c = positive-bad _ _ _ (c .before .before .if1 .left) (λ h. absurd (omega (arith, c .if2 .taken)))
 
 returns-3 : tie.Need-returns-3
-returns-3 c = positive-bad _ _ _ (c .before .before .before .before .if1 .left) (λ h. c .before .if3 .taken) (c .word-end2 .ensures)
+returns-3 c = positive-bad _ _ _ (c .before .before .before .if1 .left) (λ h. c .if3 .taken)
 
 add-digits-from : tie.Need-add-digits-from
 add-digits-from c = search needs
@@ -45,9 +39,7 @@ positive-spec =
     (tie.spec
     returns
     shared-slice-read-b
-    word-end-requires
     returns-2
-    word-end-requires-2
     returns-3
     add-digits-from
     sub-wide
