@@ -8,3 +8,4 @@ pub mod Holding
 pub mod Searching
 pub mod Compacting
 pub mod Plain
+pub mod Parts

@@ -2,7 +2,7 @@
 use Prim.Native.Nat.{ℕ, zero, suc, _+_, _*_, _-_, _≤_, _<_, min}
 use mathlib.Core.Path.{_≡_, refl, sym, ap, _∙_}
 use mathlib.Core.Bool.{Bool, true, false}
-use mathlib.Core.List.{List, [], _∷_, _++_, map, append-assoc}
+use mathlib.Core.List.{List, [], _∷_, _++_, map, append-assoc, append-nil}
 use mathlib.Core.Option.{Option, none, some}
 use native.Mathlib.Numerals.{add-one}
 use native.Mathlib.Omega.{arith}
@@ -99,10 +99,6 @@ ahead-bad item t ts xs n e = rw (n, items, e)
 ahead-end : {A : Type 0} (item : Token → Option A) (t : Token) (ts : List Token) (xs : List A) → isNought t ≡ true → ahead xs (items item (t ∷ ts)) ≡ some (xs, ts)
 unfolding items ahead
 ahead-end item t ts xs y = rw (y, items) (ap (λ (l : List _). some (l, ts)) (append-nil xs))
-  where
-    append-nil : {A : Type 0} (xs : List A) → xs ++ [] ≡ xs
-    append-nil [] = refl
-    append-nil (x ∷ xs) = ap (λ (l : List _). x ∷ l) (append-nil xs)
 
 -- Where a reader stands: the numbers `new` are stored, and what is left says what all says.
 pub record Reading (v : ℕ) (s : List ℕ) (at : ℕ) (before : List ℕ) (used : ℕ) (lits : List ℕ) (i w : ℕ) : Type 0 where

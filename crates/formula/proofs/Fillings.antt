@@ -3,7 +3,7 @@ use Prim.Native.Nat.{ℕ, zero, suc, _+_, _*_, _-_, _≤_, _<_}
 use mathlib.Core.Path.{_≡_, refl, sym, ap, subst, _∙_}
 use mathlib.Core.Logic.{_⊎_, inl, inr, ⊎-elim}
 use mathlib.Core.Bool.{Bool, true, false}
-use mathlib.Core.List.{List, [], _∷_, _++_, map, append-assoc}
+use mathlib.Core.List.{List, [], _∷_, _++_, map, append-assoc, append-nil}
 use mathlib.Core.Option.{Option, none, some}
 use native.Mathlib.Numerals.{add-one}
 use native.Mathlib.Omega.{arith}
@@ -84,10 +84,6 @@ afore-none : (o : Option (List Clause × List Token)) → afore [] o ≡ o
 unfolding afore
 afore-none none = refl
 afore-none (some r) = refl
-
-append-nil : (cs : List Clause) → cs ++ [] ≡ cs
-append-nil [] = refl
-append-nil (c ∷ cs) = ap (λ (l : List Clause). c ∷ l) (append-nil cs)
 
 afore-more : (v m : ℕ) (ts rest : List Token) (cs : List Clause) (c : Clause) → items (literal v) ts ≡ some (c, rest)
     → afore cs (readClauses v (suc m) ts) ≡ afore (cs ++ (c ∷ [])) (readClauses v m rest)

@@ -2,14 +2,14 @@
 use Prim.Native.Nat.{ℕ, zero, suc, _+_, _*_, _-_, _≤_, _<_, min}
 use mathlib.Core.Path.{_≡_, refl, sym, ap, _∙_}
 use mathlib.Core.Bool.{Bool, true, false, _&&_}
-use mathlib.Core.List.{List, [], _∷_, _++_}
+use mathlib.Core.List.{List, [], _∷_}
 use mathlib.Core.Option.{Option, none, some}
 use native.Mathlib.Numerals.{add-one}
 use native.Mathlib.Omega.{arith}
 use borrow.Author.Tests.{eq-eqb, ne-eqb, eqb-true, eqb-false, lt-leb, le-leb, leb-true, ltb-true, ltb-false}
 use lib.Dec.{eqb, leb, ltb}
-use lib.ListN.{length, take, drop, getD, length-drop, drop-of-length-le}
-use lib.Seq.{drop-cons, slice, take-all, take-add, drop-at, length-take-le}
+use lib.ListN.{length, take, drop, getD, drop-of-length-le}
+use lib.Seq.{drop-cons, slice}
 use Rattle.meaning.proofs.Truth.{bool-cases, and-both, clash}
 use Rattle.rules.specs.Tools.{bytes, only, _>>=_}
 use Rattle.rules.specs.Limits.{maxVariable, maxClauses}
@@ -21,6 +21,7 @@ use Rattle.text.specs.Scan.{most, blanks, capped, tokenOf, Scans}
 use Rattle.text.specs.declared.Token.{Token as Found}
 use Rattle.text.specs.declared.Token.the-variants.{Nought, Plus, Minus, LetterD, Other, Nothing}
 use Rattle.text.proofs.Tokens.{capped-test, capped-same}
+use Rattle.clauses.proofs.Parts.{part-rest, part-slice}
 use Rattle.formula.specs.Opening.{FirstAt, counted, countOf, headerOf, withClauses}
 use Rattle.formula.specs.declared.opening.Count.{Count}
 use Rattle.formula.specs.declared.opening.Count.the-variants.{Of, Wrong}
@@ -246,17 +247,6 @@ count-of-none (some n) r p q = absurd (let z : _≡_ {A = ℕ} 0 1 = cc in omega
 pub count-past : (limit : ℕ) (line : List ℕ) (space vars : ℕ) → length line ≤ space → NoHeader ≡ withClauses vars (count limit (token (drop (space + 1) line)))
 unfolding count token
 count-past limit line space vars h = rw (drop-of-length-le line {i = space + 1} (omega arith))
-
--- Parts of a slice, as the code lends them.
-
-pub part-rest : (s : List ℕ) (a : ℕ) → take (length s - a) (drop a s) ≡ drop a s
-part-rest s a = take-all (length s - a) (drop a s) (omega (arith, length-drop a s))
-
-pub part-slice : (s : List ℕ) (a e : ℕ) → a ≤ e → e ≤ length s → take (e - a) (drop a s) ≡ slice a e s
-part-slice s a e h l =
-    let split : e ≡ a + (e - a) = omega arith in
-    let front : take e s ≡ take a s ++ take (e - a) (drop a s) = ap (λ (k : ℕ). take k s) split ∙ take-add a (e - a) s in
-    sym (ap (drop a) front ∙ drop-at (take a s) (take (e - a) (drop a s)) a (length-take-le a s (omega arith)))
 
 module _ (limit : ℕ) (line : List ℕ) (from vars : ℕ) (r : Count) (e : r ≡ countOf (count limit (token (take (length line - from) (drop from line))))) where
   rest-count : r ≡ countOf (count limit (token (drop from line)))

@@ -2,7 +2,7 @@
 use Prim.Native.Nat.{ℕ, zero, suc, _+_, _≤_, _<_}
 use mathlib.Core.Path.{_≡_, refl, sym, ap, _∙_}
 use mathlib.Core.Bool.{Bool, true, false}
-use mathlib.Core.List.{List, [], _∷_, _++_, append-assoc}
+use mathlib.Core.List.{List, [], _∷_, _++_, append-assoc, append-nil}
 use native.Mathlib.Numerals.{add-one}
 use native.Mathlib.Omega.{arith}
 use borrow.Author.Tests.{eq-eqb, ne-eqb}
@@ -76,10 +76,6 @@ pub record Seeking (x : ℕ) (s : List ℕ) (at i : ℕ) : Type 0 where
 
 pub seeking-start : (x : ℕ) (s : List ℕ) (at : ℕ) → at ≤ length s → Seeking x s at at
 seeking-start x s at h = record { ahead = rw (slice-empty at s); rest = refl; later = omega arith; within = h }
-
-append-nil : (s : List ℕ) → s ++ [] ≡ s
-append-nil [] = refl
-append-nil (b ∷ s) = ap (λ (r : List ℕ). b ∷ r) (append-nil s)
 
 module _ (x : ℕ) (s : List ℕ) (at i : ℕ) (r : Seeking x s at i) where
   pub seeking-end : length s ≤ i → FirstAt x s at i

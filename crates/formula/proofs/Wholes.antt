@@ -23,6 +23,7 @@ use Rattle.text.specs.declared.Token.the-variants.{Nought, Plus, Minus, LetterD
 use Rattle.text.proofs.Tokens.{scanned-nothing, scanned-token, Next}
 use Rattle.clauses.specs.Store.{Holds}
 use Rattle.clauses.proofs.Holding.{holds-empty}
+use Rattle.clauses.proofs.Parts.{part-slice}
 use Rattle.formula.specs.Opening.{AfterComments, FirstAt, headerOf}
 use Rattle.formula.specs.Body.{BodyDone, BodyBad, BodyLong, BodyCase, ReadsBody, greatest}
 use Rattle.formula.specs.Reading.{EndedCase, Ended, Behind, restOf, FinishCase, Finishes, IsStored, IsUnreadable, IsTooShort, ReadCase, ReadsRest, Reads}
@@ -32,7 +33,6 @@ use Rattle.formula.specs.declared.FormulaRead.{FormulaRead}
 use Rattle.formula.specs.declared.FormulaRead.the-variants.{Stored, Unreadable, TooShort}
 use Rattle.formula.specs.declared.opening.Header.{Header}
 use Rattle.formula.specs.declared.opening.Header.the-variants.{Of as Announces, Wrong as NoHeader}
-use Rattle.formula.proofs.Headers.{part-slice}
 
 -- The end
 

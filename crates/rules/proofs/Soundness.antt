@@ -5,7 +5,7 @@ use Prim.Native.Nat.{ℕ, zero, suc}
 use mathlib.Core.Path.{_≡_, refl, sym, ap, subst, _∙_}
 use mathlib.Core.Logic.{_⊎_, inl, inr, ⊎-elim}
 use mathlib.Core.Bool.{Bool, true, false, not, _&&_, _||_, true≢false, false≢true}
-use mathlib.Core.List.{List, [], _∷_, _++_, map}
+use mathlib.Core.List.{List, [], _∷_, _++_, map, append-nil}
 use mathlib.Core.Option.{Option, none, some}
 use native.Mathlib.Omega.{arith}
 use borrow.Author.Tests.{eqb-true, eq-eqb}
@@ -331,10 +331,6 @@ after-extends a live f h t ht (p ∷ k) gs e = go (mismatch (containing (opposit
           new-holds = or-left (holds (flip p a) p) _ (flip-holds a p);
         }
     go (some d) z = some-none (rw (z, afterHints) at e)
-
-append-nil : (t : Trail) → t ++ [] ≡ t
-append-nil [] = refl
-append-nil (l ∷ t) = ap (λ (r : Trail). l ∷ r) (append-nil t)
 
 hints-extend : (a : Assignment) (live : Live) → AllFound live live → LiveHolds a live → (k : Clause) (hs : List Hint) → hintsFault live k hs ≡ none → Extended live k
 unfolding hintsFault

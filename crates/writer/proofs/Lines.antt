@@ -10,7 +10,7 @@ use Rattle.clauses.specs.Store.{clausesOf}
 use Rattle.writer.specs.Text.{Sized, Wrote, Room, WroteCounted, lineStart, firstLine, formulaOf, lengthOf, WroteFormula, LineDigits}
 use Rattle.writer.proofs.Digits.{decimal-some}
 use Rattle.writer.proofs.Texts.{Parts, Going, going-start, going-room, going-same, going-on, going-byte, going-end, room-first, wrote-parts, byte-room}
-use Rattle.writer.proofs.Stored.{clauses-length}
+use Rattle.clauses.proofs.Holding.{clauses-length}
 
 -- Six stores write what the line begins with.
 pub start-room : {out : List ℕ} → Room out 0 lineStart → 6 ≤ length out

@@ -12,6 +12,8 @@ use Rattle.meaning.proofs.Truth.{bool-cases}
 use Rattle.rules.specs.Written.{writeClause, writeClauses}
 use Rattle.clauses.specs.Codes.{literalOf}
 use Rattle.clauses.specs.Store.{startAt, clauseAt, clausesOf, Store}
+use Rattle.clauses.proofs.Holding.{clauses-length}
+use Rattle.clauses.proofs.Parts.{part-slice}
 use Rattle.writer.specs.Text.{Room, Formed, Placed, Counted, WroteCounted}
 use Rattle.writer.proofs.Texts.{Parts, Going, going-start, going-room, going-same, going-on, going-end, room-first, wrote-none}
 
@@ -32,13 +34,7 @@ module _ {heads lits : List ℕ} {n : ℕ} (f : Formed heads lits n) where
     inside = omega (arith, f .inside, rises (n - (k + 1)) (k + 1) (omega arith));
   }
 
--- There are as many clauses as the store says.
-pub clauses-length : (heads lits : List ℕ) (n : ℕ) → length (clausesOf heads lits n) ≡ n
-unfolding clausesOf
-clauses-length heads lits zero = refl
-clauses-length heads lits (suc n) = rw (length-append (clausesOf heads lits n) (clauseAt heads lits n ∷ []), clauses-length heads lits n) (omega arith)
-
--- The k-th of them is the k-th clause.
+-- The k-th of the clauses is the k-th clause.
 pub clauses-at : (heads lits : List ℕ) (n k : ℕ) → k < n → getD (clausesOf heads lits n) k [] ≡ clauseAt heads lits k
 unfolding clausesOf
 clauses-at heads lits zero k h = absurd (omega arith)
@@ -73,17 +69,11 @@ clauses-end heads lits n k h =
     let past : length (clausesOf heads lits n) ≤ k = omega (arith, clauses-length heads lits n) in
     rw (drop-of-length-le (clausesOf heads lits n) past)
 
--- A part of a list, from the front and from behind.
-part-same : (l : List ℕ) (from to : ℕ) → from ≤ to → to ≤ length l → slice from to l ≡ take (to - from) (drop from l)
-part-same l from to h k =
-    let whole : to ≡ from + (to - from) = omega arith in
-    ap (λ (m : ℕ). slice from m l) whole ∙ rw (take-add from (to - from) l) (drop-at (take from l) (take (to - from) (drop from l)) from (length-take-le from l (omega arith)))
-
 -- The k-th clause lies in a part of the literals.
 pub stored-text : (heads lits : List ℕ) (k : ℕ) {from to : ℕ} → Placed heads lits k → from ≡ startAt heads k → to ≡ startAt heads (k + 1)
     → writeClause (clauseAt heads lits k) ≡ writeClause (map literalOf (take (to - from) (drop from lits)))
 unfolding clauseAt
-stored-text heads lits k p f t = rw (f, t, part-same lits (startAt heads k) (startAt heads (k + 1)) (p .ordered) (p .inside))
+stored-text heads lits k p f t = rw (f, t, part-slice lits (startAt heads k) (startAt heads (k + 1)) (p .ordered) (p .inside))
 
 -- The first k clauses are written.
 pub record WritingAll (before : List ℕ) (at : ℕ) (heads lits : List ℕ) (n : ℕ) (now : List ℕ) (place turns k : ℕ) : Type 0 where
