@@ -9,3 +9,4 @@ pub mod Searching
 pub mod Compacting
 pub mod Plain
 pub mod Parts
+pub mod HintCodes

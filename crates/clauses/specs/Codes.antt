@@ -21,3 +21,7 @@ oppositeCode x = elim (eqb (x % 2) 0) [ true ↦ x + 1 | false ↦ x - 1 ]
 -- The hint that a number stands for: twice the id of a clause to look at, or that plus 1 where the group of the clause begins.
 unfoldable pub hintOf : ℕ → Hint
 hintOf x = elim (eqb (x % 2) 0) [ true ↦ look (x / 2) | false ↦ group (x / 2) ]
+
+-- The id that the number of a hint, or of an id to be deleted, stands for.
+abbrev pub half : ℕ → ℕ
+half x = x / 2

@@ -1,0 +1,60 @@
+-- `deletion::delete_one` meets its contract: what is looked up is what is deleted, and a lookup takes at most 63 turns.
+-- Assumes nothing.
+use native.Mathlib.Omega.{arith}
+use Rattle.deletion.proofs.Removing.{one-searchable, at-removable, at-spent, at-gone, nowhere-spent, nowhere-missing}
+use borrow.Author.Needs.{needs}
+use Rattle.deletion.proofs.delete_one.Statement.{statement}
+use Rattle.deletion.proofs.delete_one.Tie as tie
+
+lookup-requires : tie.Need-lookup-requires
+lookup-requires c κs = one-searchable _ _ _ _ _ (c .before .before .before .pre)
+
+enum-known-r : tie.Need-enum-known-r
+enum-known-r c = search needs
+
+remove-requires : tie.Need-remove-requires
+remove-requires c κs = at-removable _ _ _ _ _ (c .before .before .before .before .before .before .before .before .pre) _ (c .before .before .before .before .lookup .ensures .0) (c .before .before .before .before .lookup .ensures .1) _ _ (c .before .before .r .given .1)
+
+add-t17 : tie.Need-add-t17
+add-t17 c = search needs
+
+add-t18 : tie.Need-add-t18
+add-t18 c = omega (arith, at-spent _ _ _ _ _ (c .before .before .before .before .before .before .before .before .before .before .before .pre) _ (c .before .before .before .before .before .before .before .lookup .ensures .0) (c .before .before .before .before .before .before .before .lookup .ensures .1) _ _ (c .before .before .before .before .before .r .given .1) (omega arith), c .before .before .before .before .before .before .before .before .before .before .before .pre .few)
+
+enum-known-r-2 : tie.Need-enum-known-r-2
+enum-known-r-2 c = search needs
+
+add-t19 : tie.Need-add-t19
+add-t19 c = search needs
+
+add-t20 : tie.Need-add-t20
+add-t20 c = omega (arith, nowhere-spent _ _ _ _ _ (c .before .before .before .before .before .before .before .pre) _ (c .before .before .before .lookup .ensures .0) (c .before .before .before .lookup .ensures .1) _ (c .before .r2 .given .1) (omega arith), c .before .before .before .before .before .before .before .pre .few)
+
+same-length : tie.Need-same-length
+same-length c = search needs
+
+returns : tie.Need-returns
+returns c = at-gone _ _ _ _ _ (c .before .before .before .before .before .before .before .before .before .before .before .pre) _ (c .before .before .before .before .before .before .before .lookup .ensures .0) (c .before .before .before .before .before .before .before .lookup .ensures .1) _ _ (c .before .before .before .before .before .r .given .1) (omega arith) _ _ (c .before .before .remove .ensures .0) (c .before .before .remove .ensures .1)
+
+same-length-2 : tie.Need-same-length-2
+same-length-2 c = search needs
+
+returns-2 : tie.Need-returns-2
+returns-2 c = nowhere-missing _ _ _ _ _ (c .before .before .before .before .before .before .before .pre) _ (c .before .before .before .lookup .ensures .0) (c .before .before .before .lookup .ensures .1) _ (c .before .r2 .given .1) (omega arith)
+
+pub delete-one-spec : {M : Type 1} → statement M
+delete-one-spec =
+    tie.close
+    (tie.spec
+    lookup-requires
+    enum-known-r
+    remove-requires
+    add-t17
+    add-t18
+    enum-known-r-2
+    add-t19
+    add-t20
+    same-length
+    returns
+    same-length-2
+    returns-2)

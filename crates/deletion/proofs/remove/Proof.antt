@@ -1,0 +1,75 @@
+-- `deletion::remove` meets its contract: the sum is at most a number that stands in the heads, so it fits. Assumes nothing.
+use Prim.Native.Nat.{_+_, _*_}
+use native.Mathlib.Omega.{arith}
+use borrow.Author.Needs.{needs}
+use Rattle.deletion.proofs.remove.Statement.{statement}
+use Rattle.deletion.proofs.remove.Tie as tie
+
+mul-index : tie.Need-mul-index
+mul-index c = search needs
+
+add-index : tie.Need-add-index
+add-index c = search needs
+
+mul-index-2 : tie.Need-mul-index-2
+mul-index-2 c = search needs
+
+slice-read-index : tie.Need-slice-read-index
+slice-read-index c = search needs
+
+index-requires : tie.Need-index-requires
+index-requires c κs = search needs
+
+add-index-2 : tie.Need-add-index-2
+add-index-2 c = search needs
+
+mul-index-3 : tie.Need-mul-index-3
+mul-index-3 c = search needs
+
+add-index-3 : tie.Need-add-index-3
+add-index-3 c = search needs
+
+mul-index-4 : tie.Need-mul-index-4
+mul-index-4 c = search needs
+
+slice-read-index-2 : tie.Need-slice-read-index-2
+slice-read-index-2 c = search needs
+
+index-requires-2 : tie.Need-index-requires-2
+index-requires-2 c κs = search needs
+
+delete-requires : tie.Need-delete-requires
+delete-requires c κs = search needs
+
+sub-result : tie.Need-sub-result
+sub-result c = search needs
+
+add-result : tie.Need-add-result
+add-result c = omega (arith, c .before .before .before .before .before .before .before .before .slice-known .given (2 * c .before .before .before .before .before .before .before .before .before .pre .most + 1), c .before .before .before .before .before .before .before .before .before .pre .fits)
+
+same-length : tie.Need-same-length
+same-length c = search needs
+
+returns : tie.Need-returns
+returns c = search needs
+
+pub remove-spec : {M : Type 1} → statement M
+remove-spec =
+    tie.close
+    (tie.spec
+    mul-index
+    add-index
+    mul-index-2
+    slice-read-index
+    index-requires
+    add-index-2
+    mul-index-3
+    add-index-3
+    mul-index-4
+    slice-read-index-2
+    index-requires-2
+    delete-requires
+    sub-result
+    add-result
+    same-length
+    returns)

@@ -1,0 +1,106 @@
+// Judging a deletion, document 01, section 5: the ids are taken in order, and each must be live. The clause that has an id is
+// looked up in the store of live clauses and marked as deleted. Its literals keep their room until the store is compacted; how
+// much room that is, is counted here. Nothing is promised of heads that belong to no store.
+use clauses::Found;
+ghost use mathlib.Core.Path.{_≡_};
+ghost use Prim.Native.Nat.{_+_, _-_, _*_, _/_, _<_, _≤_, _^_};
+ghost use lib.ListN.{length, set};
+ghost use Rattle.clauses.specs.Store.{idAt, startAt};
+ghost use Rattle.deletion.specs.Deleting.{Headed, Removable, Deletable, DeletesOne, Deletes};
+
+// What a deletion came to: all ids were live; or this one was not. `dead` is how many literals the clauses have that were deleted
+// before that, and `turns` how many turns the loops made.
+pub enum Deleted {
+    Done { dead: usize, turns: u64 },
+    NotLive { id: u64, dead: usize, turns: u64 },
+}
+
+// The id that a code stands for.
+fn half(x: u32) -> u64
+    ensures { λ r. ⌜ (r ≡ x / 2) × (r < 2 ^ 60) ⌝ }
+{
+    x as u64 / 2
+}
+
+// Deletes the `k`-th clause, which is live, and adds the number of its literals to `dead`.
+fn remove(heads: &mut [u64], k: usize, dead: usize) -> usize
+    requires { ⌜ Removable (now heads) k dead ⌝ }
+    ensures after { λ _. ⌜ now (heads .exit) ≡ set (now (heads .entry)) (2 * k) (idAt (now (heads .entry)) k + 1) ⌝ }
+    ensures count { λ r. ⌜ r ≡ dead + (startAt (now (heads .entry)) (k + 1) - startAt (now (heads .entry)) k) ⌝ }
+{
+    let from = clauses::index(heads[2 * k + 1]);
+    let end = clauses::index(heads[2 * (k + 1) + 1]);
+    clauses::delete(heads, k);
+    dead + (end - from)
+}
+
+// Deletes the clause `id`, if it is live. `dead` and `turns` are counted on.
+fn delete_one(
+    heads: &mut [u64],
+    n: usize,
+    guess: &[u32],
+    id: u64,
+    dead: usize,
+    turns: u64,
+) -> Deleted
+    requires { ⌜ Deletable (now heads) n id dead turns ⌝ }
+    ensures { λ r. ⌜ DeletesOne (now (heads .entry)) n id dead turns (now (heads .exit)) r ⌝ }
+{
+    let r = clauses::lookup(heads, n, guess, id);
+    match r {
+        Found::At {
+            place,
+            turns: spent,
+        } => {
+            let more = remove(heads, place, dead);
+            Deleted::Done {
+                dead: more,
+                turns: turns + 1 + spent,
+            }
+        }
+        Found::Nowhere { turns: spent } => Deleted::NotLive {
+            id: id,
+            dead: dead,
+            turns: turns + 1 + spent,
+        },
+    }
+}
+
+// Deletes the clauses whose ids the first `many` of `ids` stand for, in order, up to the first that is not live.
+pub fn delete_all(heads: &mut [u64], n: usize, guess: &[u32], ids: &[u32], many: usize) -> Deleted
+    requires { ⌜ Headed (now heads) n ⌝ }
+    requires { ⌜ (many ≤ length (now ids)) × (many < 2 ^ 57) ⌝ }
+    ensures { λ r. ⌜ Deletes (now (heads .entry)) n (now (ids .entry)) many (now (heads .exit)) r ⌝ }
+{
+    let mut dead: usize = 0;
+    let mut turns: u64 = 0;
+    let mut i = 0;
+    while i < many {
+        let r = delete_one(heads, n, guess, half(ids[i]), dead, turns);
+        match r {
+            Deleted::Done {
+                dead: more,
+                turns: taken,
+            } => {
+                dead = more;
+                turns = taken;
+            }
+            Deleted::NotLive {
+                id: missing,
+                dead: more,
+                turns: taken,
+            } => {
+                return Deleted::NotLive {
+                    id: missing,
+                    dead: more,
+                    turns: taken,
+                };
+            }
+        }
+        i += 1;
+    }
+    Deleted::Done {
+        dead: dead,
+        turns: turns,
+    }
+}

@@ -1,0 +1,2 @@
+-- The definitions that the contracts of the crate cite, beside those of `rules` and `clauses`.
+pub mod Matching
