@@ -1,0 +1,93 @@
+-- `hints::take_hints` meets its contract. The loop's invariant: each hint before i forced a literal, which is true now, and
+-- the hints from i on come to what all come to (`Taking`). The measure is the number of hints that are left. Assumes nothing.
+use Prim.Native.Nat.{_-_}
+use mathlib.Core.Path.{_∙_}
+use native.Mathlib.Omega.{arith}
+use Rattle.clauses.specs.Store.{liveOf}
+use Rattle.judge.proofs.Taking.{Taking, taking-start, taking-ready, taking-turns, taking-stop, taking-on, taking-end}
+use borrow.Author.Needs.{needs}
+use Rattle.judge.proofs.hints.take_hints.Statement.{statement}
+use Rattle.judge.proofs.hints.take_hints.Tie as tie
+
+abbrev Inv-loop : tie.InvT-loop
+Inv-loop heads n guess lits marks₀ tape₀ t hints from to i₀ at₀ turns₀ marks tape i at turns = Taking (liveOf heads lits n) n hints from to marks₀ tape₀ t marks tape i at turns
+
+abbrev μ-loop : tie.MeasureT-loop
+μ-loop heads n guess lits marks₀ tape₀ t hints from to i₀ at₀ turns₀ marks tape i at turns = to - i
+
+loop-holds : tie.Need-loop-holds Inv-loop μ-loop
+loop-holds c = taking-start _ _ _ _ _ _ _ _ (c .before .before .before .before .before .before .pre .1 .0) (c .before .before .before .before .before .before .pre .1 .1)
+
+mul-id-of : tie.Need-mul-id-of Inv-loop μ-loop
+mul-id-of c = search needs
+
+shared-slice-read-id-of : tie.Need-shared-slice-read-id-of Inv-loop μ-loop
+shared-slice-read-id-of c = search needs
+
+id-of-requires : tie.Need-id-of-requires Inv-loop μ-loop
+id-of-requires c κs = search needs
+
+take-one-requires : tie.Need-take-one-requires Inv-loop μ-loop
+take-one-requires c κs = (taking-ready _ _ _ _ _ _ _ _ _ _ _ _ _ _ (c .before .before .before .before .before .loop .inv) (c .before .before .before .before .before .before .before .before .before .before .before .before .pre .0) (c .before .before .before .before .before .before .before .before .before .before .before .before .pre .1 .1), (c .before .before .before .before .before .loop .inv .laid .room, c .before .before .id-of .ensures .1))
+
+add-turns : tie.Need-add-turns Inv-loop μ-loop
+add-turns c =
+    let few = taking-turns _ _ _ _ _ _ _ _ _ _ _ _ _ _ (c .before .before .before .before .before .before .before .before .before .before .before .loop .inv) (c .before .before .before .before .before .before .before .before .before .before .before .before .before .before .before .before .before .before .pre .0) (c .before .before .before .before .before .before .before .before .before .before .before .before .before .before .before .before .before .before .pre .1 .1) (c .before .before .before .before .before .before .before .before .before .before .loop-test .taken) _ (c .before .before .before .before .before .before .before .before .id-of .ensures .0) _ _ _ _ _ (c .before .before .before .before .before .take-one .ensures) in
+    omega (arith, few)
+
+stops-requires : tie.Need-stops-requires Inv-loop μ-loop
+stops-requires c κs = search needs
+
+how-by-requires : tie.Need-how-by-requires Inv-loop μ-loop
+how-by-requires c κs = search needs
+
+same-length : tie.Need-same-length Inv-loop μ-loop
+same-length c = c .before .before .before .before .before .before .before .before .take-one .ensures .laid .differ .long ∙ c .before .before .before .before .before .before .before .before .before .before .before .before .before .before .loop .inv .laid .differ .long
+
+same-length-2 : tie.Need-same-length-2 Inv-loop μ-loop
+same-length-2 c = c .before .before .before .before .before .before .before .before .take-one .ensures .laid .long ∙ c .before .before .before .before .before .before .before .before .before .before .before .before .before .before .loop .inv .laid .long
+
+returns : tie.Need-returns Inv-loop μ-loop
+returns c = taking-stop _ _ _ _ _ _ _ _ _ _ _ _ _ _ (c .before .before .before .before .before .before .before .before .before .before .before .before .before .before .loop .inv) (c .before .before .before .before .before .before .before .before .before .before .before .before .before .before .before .before .before .before .before .before .before .pre .0) (c .before .before .before .before .before .before .before .before .before .before .before .before .before .before .before .before .before .before .before .before .before .pre .1 .1) (c .before .before .before .before .before .before .before .before .before .before .before .before .before .loop-test .taken) _ (c .before .before .before .before .before .before .before .before .before .before .before .id-of .ensures .0) _ _ _ _ _ (c .before .before .before .before .before .before .before .before .take-one .ensures) _ (c .before .before .stops .ensures) (c .before .if1 .taken) _ (c .how-by .ensures)
+
+add-i : tie.Need-add-i Inv-loop μ-loop
+add-i c = search needs
+
+loop-less : tie.Need-loop-less Inv-loop μ-loop
+loop-less c = omega (arith, c .before .before .before .before .before .before .before .before .before .before .before .before .loop-test .taken)
+
+loop-again : tie.Need-loop-again Inv-loop μ-loop
+loop-again c = taking-on _ _ _ _ _ _ _ _ _ _ _ _ _ _ (c .before .before .before .before .before .before .before .before .before .before .before .before .before .loop .inv) (c .before .before .before .before .before .before .before .before .before .before .before .before .before .before .before .before .before .before .before .before .pre .0) (c .before .before .before .before .before .before .before .before .before .before .before .before .before .before .before .before .before .before .before .before .pre .1 .1) (c .before .before .before .before .before .before .before .before .before .before .before .before .loop-test .taken) _ (c .before .before .before .before .before .before .before .before .before .before .id-of .ensures .0) _ _ _ _ _ (c .before .before .before .before .before .before .before .take-one .ensures) _ (c .before .stops .ensures) (c .if1 .left)
+
+same-length-3 : tie.Need-same-length-3 Inv-loop μ-loop
+same-length-3 c = c .before .loop .inv .laid .differ .long
+
+same-length-4 : tie.Need-same-length-4 Inv-loop μ-loop
+same-length-4 c = c .before .loop .inv .laid .long
+
+returns-2 : tie.Need-returns-2 Inv-loop μ-loop
+returns-2 c = taking-end _ _ _ _ _ _ _ _ _ _ _ _ _ _ (c .before .loop .inv) (c .before .before .before .before .before .before .before .before .pre .0) (c .before .before .before .before .before .before .before .before .pre .1 .1) (c .loop-test .left)
+
+pub take-hints-spec : {M : Type 1} → statement M
+take-hints-spec =
+    tie.close
+    (tie.spec
+    Inv-loop
+    μ-loop
+    loop-holds
+    mul-id-of
+    shared-slice-read-id-of
+    id-of-requires
+    take-one-requires
+    add-turns
+    stops-requires
+    how-by-requires
+    same-length
+    same-length-2
+    returns
+    add-i
+    loop-less
+    loop-again
+    same-length-3
+    same-length-4
+    returns-2)

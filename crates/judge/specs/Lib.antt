@@ -1,0 +1,3 @@
+-- The definitions of the crate: what its functions promise, in terms of rules' Judging.
+pub mod Hints
+pub mod Falsifying
