@@ -3,7 +3,7 @@
 // The way of the data: `opening` passes the comment lines and reads the line `p cnf V C`; `body` reads the clauses; `writer`
 // (a crate of its own) writes them out. Room goes by what occurs in the text and not by what the header announces.
 // What is promised of unreadable bytes is only that they are found out, and of a store that is too short that it was.
-mod body;
+pub mod body;
 mod opening;
 
 use body::BodyRead;
