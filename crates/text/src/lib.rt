@@ -146,7 +146,7 @@ fn run(s: &[u8], from: usize, first: u64) -> Number
         if 57 < b {
             return Number { value: v, next: i };
         }
-        v = v * 10 + wide(b - 48);
+        v = v * 10 + (wide(b) - 48);
         i += 1;
         if 1000000000000000000 < v {
             return Number { value: v, next: i };

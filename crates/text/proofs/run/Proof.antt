@@ -32,6 +32,9 @@ mul-v c = omega arith
 wide-requires : tie.Need-wide-requires Inv-loop μ-loop
 wide-requires c κs = search needs
 
+sub-v : tie.Need-sub-v Inv-loop μ-loop
+sub-v c = omega arith
+
 add-v : tie.Need-add-v Inv-loop μ-loop
 add-v c = omega arith
 
@@ -62,6 +65,7 @@ run-spec =
     returns-2
     mul-v
     wide-requires
+    sub-v
     add-v
     add-i
     returns-3
