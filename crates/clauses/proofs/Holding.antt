@@ -259,7 +259,7 @@ holds-delete heads lits n used last live h k id l e =
 
 -- The store of a formula: the k-th clause has the id k + 1.
 
-numbered-more : (m : ℕ) (cs : List Clause) (c : Clause) → numbered m (cs ++ (c ∷ [])) ≡ numbered m cs ++ ((suc (m + length cs), c) ∷ [])
+pub numbered-more : (m : ℕ) (cs : List Clause) (c : Clause) → numbered m (cs ++ (c ∷ [])) ≡ numbered m cs ++ ((suc (m + length cs), c) ∷ [])
 unfolding numbered
 numbered-more m [] c = ap (λ (x : ℕ). (suc x, c) ∷ []) (omega arith)
 numbered-more m (d ∷ cs) c =

@@ -139,13 +139,13 @@ placed-more before new lits used w x fit p h =
       stored = ap (λ (l : List ℕ). set l w x) (p .stored) ∙ put;
     }
 
-below-more : (m : ℕ) (xs : List ℕ) (x : ℕ) → AllBelow m xs → x < m → AllBelow m (xs ++ (x ∷ []))
+pub below-more : (m : ℕ) (xs : List ℕ) (x : ℕ) → AllBelow m xs → x < m → AllBelow m (xs ++ (x ∷ []))
 below-more m [] x a h = (h, tt)
 below-more m (y ∷ xs) x a h = (a .0, below-more m xs x (a .1) h)
 
-map-more : (xs : List ℕ) (x : ℕ) → map literalOf (xs ++ (x ∷ [])) ≡ map literalOf xs ++ (literalOf x ∷ [])
-map-more [] x = refl
-map-more (y ∷ xs) x = ap (λ (l : Clause). literalOf y ∷ l) (map-more xs x)
+pub map-more : {A : Type 0} (f : ℕ → A) (xs : List ℕ) (x : ℕ) → map f (xs ++ (x ∷ [])) ≡ map f xs ++ (f x ∷ [])
+map-more f [] x = refl
+map-more f (y ∷ xs) x = ap (λ (l : List _). f y ∷ l) (map-more f xs x)
 
 none-lit : (x : ℕ) {X : Type 0} → Wrong ≡ Lit x → X
 none-lit x e = absurd (let z : _≡_ {A = ℕ} 0 1 = cc in omega arith)
@@ -174,7 +174,7 @@ module _ (v : ℕ) (small : v < most) (s : List ℕ) (at : ℕ) (before : List �
         below = below-more (2 * v + 2) (r .new) x (r .below) (say .2);
         left = r .left ∙ ap (λ (ts : List Token). ahead (map literalOf (r .new)) (items (literal v) ts)) (next .is)
             ∙ ahead-more (literal v) (next .tok) (tokens (drop n s)) (map literalOf (r .new)) (literalOf x) (say .0) (say .1)
-            ∙ ap (λ (l : Clause). ahead l (items (literal v) (tokens (drop n s)))) (sym (map-more (r .new) x));
+            ∙ ap (λ (l : Clause). ahead l (items (literal v) (tokens (drop n s)))) (sym (map-more literalOf (r .new) x));
         few = rw length-append (omega (arith, r .few, ap length (next .is)));
         later = omega (arith, r .later, next .later);
         within = next .within;

@@ -21,7 +21,7 @@ use Rattle.rules.specs.Answers.{numbered}
 use Rattle.rules.proofs.Running.{items-count}
 use Rattle.clauses.specs.Codes.{literalOf}
 use Rattle.clauses.specs.Store.{Store, Holds}
-use Rattle.clauses.proofs.Holding.{holds-append, holds-literals}
+use Rattle.clauses.proofs.Holding.{holds-append, holds-literals, numbered-more}
 use Rattle.formula.specs.Body.{Placed, AllBelow, ClauseDone, ClauseBad, ClauseLong, ClauseCase, ReadsClause, CloseCase, Closes, BodyDone, BodyBad, BodyLong}
 use Rattle.formula.specs.declared.body.ClauseRead.{ClauseRead}
 use Rattle.formula.specs.declared.body.ClauseRead.the-variants.{Done, Unreadable, TooShort}
@@ -65,15 +65,6 @@ module _ (before : List ℕ) (used : ℕ) (new after : List ℕ) (end : ℕ) (fi
       ∙ getD-append-add (take used before) (new ++ drop end before) (i - used) 0
       ∙ List·getD-append new (drop end before) 0 (i - used) inside in
       rw is (all-below m new (i - used) a inside))
-
--- Clauses with their ids
-
-pub numbered-more : (n : ℕ) (cs : List Clause) (c : Clause) → numbered n (cs ++ (c ∷ [])) ≡ numbered n cs ++ ((suc (n + length cs), c) ∷ [])
-unfolding numbered
-numbered-more n [] c = let z : n ≡ n + 0 = omega arith in ap (λ (k : ℕ). (suc k, c) ∷ []) z
-numbered-more n (d ∷ cs) c =
-    let z : suc n + length cs ≡ n + suc (length cs) = omega arith in
-    ap (λ (l : Live). (suc n, d) ∷ l) (numbered-more (suc n) cs c ∙ ap (λ (k : ℕ). numbered (suc n) cs ++ ((suc k, c) ∷ [])) z)
 
 -- Clauses in front of those that are read from here on.
 pub afore : List Clause → Option (List Clause × List Token) → Option (List Clause × List Token)

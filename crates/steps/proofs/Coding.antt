@@ -19,12 +19,13 @@ use Rattle.text.specs.Scan.{most, capped}
 use Rattle.text.specs.declared.Token.{Token as Found}
 use Rattle.text.specs.declared.Token.the-variants.{Nought, Plus, Minus, LetterD, Other, Nothing}
 use Rattle.text.proofs.Tokens.{capped-test, capped-same}
-use Rattle.clauses.specs.Codes.{literalOf, codeOf, hintOf}
+use Rattle.clauses.specs.Codes.{literalOf, codeOf, hintOf, half}
+use Rattle.clauses.proofs.HintCodes.{hint-even, hint-odd}
 use Rattle.clauses.proofs.Literals.{literal-code}
 use Rattle.formula.specs.Body.{itemOf}
 use Rattle.formula.specs.declared.body.Item.{Item}
 use Rattle.formula.specs.declared.body.Item.the-variants.{Literal as Lit, End, Wrong}
-use Rattle.steps.specs.Feeding.{idWithin, idItem, idOf, KeepCase, Keeps, FedBy, phaseOf, literalFed, FedStart, LetterCase, Letter, FedBody}
+use Rattle.steps.specs.Feeding.{idWithin, idItem, KeepCase, Keeps, FedBy, phaseOf, literalFed, FedStart, LetterCase, Letter, FedBody}
 use Rattle.steps.specs.declared.feeding.Kind.the-variants.{Body, Ids}
 use Rattle.steps.specs.declared.feeding.Phase.{Phase}
 use Rattle.steps.specs.declared.feeding.Fed.{Fed}
@@ -104,14 +105,6 @@ Told item of t (Lit x) = (isNought t ≡ false) × (item t ≡ some (of x))
 Told item of t End = isNought t ≡ true
 Told item of t Wrong = (isNought t ≡ false) × (item t ≡ none)
 
-hint-even : (n : ℕ) → hintOf (2 * n) ≡ look n
-unfolding hintOf
-hint-even n = rw (eq-eqb (2 * n % 2) 0 (omega arith), hintOf) (ap look (omega arith))
-
-hint-odd : (n : ℕ) → hintOf (2 * n + 1) ≡ group n
-unfolding hintOf
-hint-odd n = rw (ne-eqb ((2 * n + 1) % 2) 0 (λ q. omega arith), hintOf) (ap group (omega arith))
-
 pub size-same : (m n : ℕ) → m < most → leb n m ≡ true → min n most ≡ n
 size-same m n small y = capped-same m n small (let q = leb-true n m y in omega arith)
 
@@ -141,15 +134,15 @@ literal-told other = (refl, refl)
 pub hint-told : (t : Token) → Told hint hintOf t (itemOf maxId (capped t))
 unfolding hint
 hint-told nought = refl
-hint-told (plus n) = number-told hint hintOf maxId n (plus n) even (look n) (omega arith) refl refl (hint-even n)
-hint-told (minus n) = number-told hint hintOf maxId n (minus n) odd (group n) (omega arith) refl refl (hint-odd n)
+hint-told (plus n) = number-told hint hintOf maxId n (plus n) even (look n) (omega arith) refl refl (hint-even (2 * n) (omega arith) ∙ ap look (omega arith))
+hint-told (minus n) = number-told hint hintOf maxId n (minus n) odd (group n) (omega arith) refl refl (hint-odd (2 * n + 1) (λ q. omega arith) ∙ ap group (omega arith))
 hint-told letterD = (refl, refl)
 hint-told other = (refl, refl)
 
-pub id-told : (t : Token) → Told clauseId idOf t (idItem maxId (capped t))
+pub id-told : (t : Token) → Told clauseId half t (idItem maxId (capped t))
 unfolding clauseId
 id-told nought = refl
-id-told (plus n) = number-told clauseId idOf maxId n (plus n) even n (omega arith) refl refl (omega arith)
+id-told (plus n) = number-told clauseId half maxId n (plus n) even n (omega arith) refl refl (omega arith)
 id-told (minus n) = (refl, refl)
 id-told letterD = (refl, refl)
 id-told other = (refl, refl)

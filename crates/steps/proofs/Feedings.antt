@@ -19,15 +19,15 @@ use Rattle.text.specs.Scan.{capped}
 use Rattle.text.specs.declared.Token.{Token as Found}
 use Rattle.text.specs.declared.Token.the-variants.{Nought, Plus, Minus, LetterD, Other, Nothing}
 use Rattle.text.proofs.Tokens.{capped-test}
-use Rattle.clauses.specs.Codes.{literalOf, hintOf}
+use Rattle.clauses.specs.Codes.{literalOf, hintOf, half}
 use Rattle.clauses.proofs.Literals.{variable-literal}
 use Rattle.formula.specs.Body.{itemOf, Placed, AllBelow}
 use Rattle.formula.specs.declared.body.Item.{Item}
 use Rattle.formula.specs.declared.body.Item.the-variants.{Literal as Lit, End, Wrong}
-use Rattle.formula.proofs.Bodies.{placed-more}
+use Rattle.formula.proofs.Bodies.{placed-more, map-more, below-more}
 use Rattle.formula.proofs.Fillings.{placed-length}
 use Rattle.steps.specs.Partials.{Partial, atStart, gotId, inLiterals, inHints, inIds, Advance, goesOn, unreadable, itemOr, literalOr, advance}
-use Rattle.steps.specs.Feeding.{idWithin, idItem, idOf, KeepCase, FedBy, codes, phaseOf, literalFed, hintFed, idFed, StartCase, FedStart, BodyCase, FedBody, IsId, partialOf, Begun, Midway, GoesOn, TooLarge, FeedCase, Feeds}
+use Rattle.steps.specs.Feeding.{idWithin, idItem, KeepCase, FedBy, codes, phaseOf, literalFed, hintFed, idFed, StartCase, FedStart, BodyCase, FedBody, IsId, partialOf, Begun, Midway, GoesOn, TooLarge, FeedCase, Feeds}
 use Rattle.steps.specs.declared.feeding.Kind.{Kind}
 use Rattle.steps.specs.declared.feeding.Kind.the-variants.{Start, Body, Literals, Hints, Ids}
 use Rattle.steps.specs.declared.feeding.Phase.{Phase}
@@ -81,16 +81,6 @@ id-below m (Minus v) x e = absurd (let z : _≡_ {A = ℕ} 0 1 = cc in omega ari
 id-below m LetterD x e = absurd (let z : _≡_ {A = ℕ} 0 1 = cc in omega arith)
 id-below m Other x e = absurd (let z : _≡_ {A = ℕ} 0 1 = cc in omega arith)
 id-below m Nothing x e = absurd (let z : _≡_ {A = ℕ} 0 1 = cc in omega arith)
-
--- Lists
-
-map-more : {A : Type 0} (f : ℕ → A) (xs : List ℕ) (x : ℕ) → map f (xs ++ (x ∷ [])) ≡ map f xs ++ (f x ∷ [])
-map-more f [] x = refl
-map-more f (y ∷ xs) x = ap (λ (l : List _). f y ∷ l) (map-more f xs x)
-
-below-more : (m : ℕ) (xs : List ℕ) (x : ℕ) → AllBelow m xs → x < m → AllBelow m (xs ++ (x ∷ []))
-below-more m [] x a h = (h, tt)
-below-more m (y ∷ xs) x a h = (a .0, below-more m xs x (a .1) h)
 
 -- One number more, in what the slice has become.
 placed-on : (before new now after : List ℕ) (used w x : ℕ) → used ≤ length before → Placed before used new now w → w < length now → after ≡ set now w x → Placed before used (new ++ (x ∷ [])) after (w + 1)
@@ -440,16 +430,16 @@ module _ (phase : Phase) (t : Found) (cells : ℕ) (lits hints : List ℕ) where
   -- Ids to delete
 
   module _ (e : phase .kind ≡ Ids) (hints′ : List ℕ) where
-    id-says : (y : Item) → idItem maxId t ≡ y → (x : Midway cells phase t lits hints) → Told clauseId idOf (x .token) y
-    id-says y q x = told-by clauseId idOf (idItem maxId) id-told (x .token) t y (x .cap) q
+    id-says : (y : Item) → idItem maxId t ≡ y → (x : Midway cells phase t lits hints) → Told clauseId half (x .token) y
+    id-says y q x = told-by clauseId half (idItem maxId) id-told (x .token) t y (x .cap) q
 
     id-case : (kept : Kept) → KeepCase (idItem maxId t) (phase .many) codes hints hints′ kept → FeedCase phase t cells lits hints lits hints′ (idFed (phase .id) (phase .end) (phase .many) kept)
     unfolding idFed advance
     id-case Stored h =
         λ x.
-        noted-on Ids x (inIds (map idOf (x .stands .told) ++ (idOf (h .0) ∷ []))) (h .0) hints′
-        (leads-from _ _ x (stands-is Ids e x) (item-on clauseId idOf _ _ (x .token) (h .0) (id-says (Lit (h .0)) (h .1) x)))
-        (ap inIds (sym (map-more idOf (x .stands .told) (h .0))))
+        noted-on Ids x (inIds (map half (x .stands .told) ++ (half (h .0) ∷ []))) (h .0) hints′
+        (leads-from _ _ x (stands-is Ids e x) (item-on clauseId half _ _ (x .token) (h .0) (id-says (Lit (h .0)) (h .1) x)))
+        (ap inIds (sym (map-more half (x .stands .told) (h .0))))
         (stands-begun Ids e x)
         (h .3)
         (h .4)
@@ -457,11 +447,11 @@ module _ (phase : Phase) (t : Found) (cells : ℕ) (lits hints : List ℕ) where
         λ x.
         record {
           told = x .stands .told;
-          is = leads-from _ _ x (stands-is Ids e x) (item-end clauseId idOf _ _ (x .token) (id-says End (h .0) x));
+          is = leads-from _ _ x (stands-is Ids e x) (item-end clauseId half _ _ (x .token) (id-says End (h .0) x));
           noted = rw (h .1) (x .stands .noted);
           same = placed-same (x .lits₀) lits (x .used) (placed-none (x .lits₀) (x .stands .new) lits (x .used) (phase .end) (stands-begun Ids e x) (x .stands .placed));
         }
-    id-case Refused h = ((λ x. leads-from _ _ x (stands-is Ids e x) (item-wrong clauseId idOf _ _ (x .token) (id-says Wrong (h .0) x))), refl, h .1)
+    id-case Refused h = ((λ x. leads-from _ _ x (stands-is Ids e x) (item-wrong clauseId half _ _ (x .token) (id-says Wrong (h .0) x))), refl, h .1)
     id-case Full h = ((λ x. ⊎-elim (λ l. absurd (omega (arith, id-below maxId t (h .0) (h .1)))) (λ f. inr (inl f)) (h .2)), refl, h .3)
 
     pub feeds-id : (r : Fed) → FedBy (idItem maxId t) (phase .many) codes hints hints′ (idFed (phase .id) (phase .end) (phase .many)) r → Feeds phase t cells lits hints lits hints′ r

@@ -15,11 +15,11 @@ use Rattle.rules.specs.Steps.{add, delete, readStep}
 use Rattle.text.specs.Scan.{blanks, Scans}
 use Rattle.text.specs.declared.Token.{Token as Found}
 use Rattle.text.specs.declared.Token.the-variants.{Nought, Plus, Minus, LetterD, Other, Nothing}
-use Rattle.text.proofs.Tokens.{scanned-nothing, scanned-token, Next}
-use Rattle.clauses.specs.Codes.{literalOf, hintOf}
+use Rattle.text.proofs.Tokens.{word-short, blanks-short, scanned-nothing, scanned-token, Next}
+use Rattle.clauses.specs.Codes.{literalOf, hintOf, half}
 use Rattle.formula.proofs.Fillings.{placed-length}
 use Rattle.steps.specs.Partials.{Partial, atStart, resume, Advance, ends, unreadable, advance, afterwards, reach, taken}
-use Rattle.steps.specs.Feeding.{idOf, phaseOf, partialOf, Begun, Stands, Midway, GoesOn, Adds, Deletes, FeedCase, Feeds}
+use Rattle.steps.specs.Feeding.{phaseOf, partialOf, Begun, Stands, Midway, GoesOn, Adds, Deletes, FeedCase, Feeds}
 use Rattle.steps.specs.Reading.{AtEndCase, AtEnd, UnreadCase, Unread, StepNone, StepStopped, StepCase, ReadsStep}
 use Rattle.steps.specs.declared.feeding.Kind.{Kind}
 use Rattle.steps.specs.declared.feeding.Kind.the-variants.{Start, Body, Literals, Hints, Ids}
@@ -64,16 +64,6 @@ module _ (t : Found) (at i next end many : ℕ) (b : Bool) (e : AtEnd t b) where
 
 -- A scan stays in the text.
 
-word-short : (s : List ℕ) → length (word s) ≤ length s
-unfolding word
-word-short [] = omega arith
-word-short (b ∷ s) = bool-cases (isBlank b) (λ y. rw (y, word) (omega arith)) (λ n. rw (n, word) (omega (arith, word-short s)))
-
-blanks-short : (s : List ℕ) → blanks s ≤ length s
-unfolding blanks
-blanks-short [] = omega arith
-blanks-short (b ∷ s) = bool-cases (isBlank b) (λ y. rw (y, blanks) (omega (arith, blanks-short s))) (λ n. rw (n, blanks) (omega arith))
-
 scanned-within : (s : List ℕ) (at : ℕ) (t : Found) (n : ℕ) → at ≤ length s → Scans at (drop at s) t n → (at ≤ n) × (n ≤ length s)
 scanned-within s at t n h r =
     let rest = drop (blanks (drop at s)) (drop at s) in
@@ -91,7 +81,7 @@ stored-taken Start n new told b = (omega (arith, ap length (b .0), ap length (b 
 stored-taken Body n new told b = (omega (arith, ap length (b .1), ap length (b .2)), omega arith)
 stored-taken Literals n new told b = (omega (arith, length-map new literalOf, ap length (b .1)), omega (arith, length-map new literalOf))
 stored-taken Hints n new told b = (omega (arith, length-map new literalOf, length-map told hintOf), omega (arith, length-map new literalOf, length-map told hintOf))
-stored-taken Ids n new told b = (omega (arith, length-map told idOf, ap length b), omega (arith, length-map told idOf))
+stored-taken Ids n new told b = (omega (arith, length-map told half, ap length b), omega (arith, length-map told half))
 
 -- Where the reader stands between two tokens: those of `front` are read, and make the part of a step that the phase and the
 -- slices say.
@@ -234,10 +224,10 @@ module _ (cells : ℕ) (s : List ℕ) (at used : ℕ) (lits₀ hints₀ lits hin
         record {
           case = record {
             told = d .told;
-            is = token-says next (ends (delete (map idOf (d .told)))) (d .is);
+            is = token-says next (ends (delete (map half (d .told)))) (d .is);
             noted = d .noted;
             same = d .same;
-            turns = omega (arith, token-counts next (ends (delete (map idOf (d .told)))) (d .is), length-map (d .told) idOf, read-count, token-count, ap length (next .is));
+            turns = omega (arith, token-counts next (ends (delete (map half (d .told)))) (d .is), length-map (d .told) half, read-count, token-count, ap length (next .is));
             later = omega (arith, r .later, next .later);
             within = next .within;
           };

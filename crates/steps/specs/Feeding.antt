@@ -15,7 +15,7 @@ use Rattle.rules.proofs.Words.{Proper}
 use Rattle.text.specs.Scan.{capped}
 use Rattle.text.specs.declared.Token.{Token as Found}
 use Rattle.text.specs.declared.Token.the-variants.{Nought, Plus, Minus, LetterD, Other, Nothing}
-use Rattle.clauses.specs.Codes.{literalOf, hintOf}
+use Rattle.clauses.specs.Codes.{literalOf, hintOf, half}
 use Rattle.formula.specs.Body.{itemOf, Placed, AllBelow}
 use Rattle.formula.specs.declared.body.Item.{Item}
 use Rattle.formula.specs.declared.body.Item.the-variants.{Literal, End, Wrong}
@@ -45,10 +45,6 @@ idItem m (Minus v) = Wrong
 idItem m LetterD = Wrong
 idItem m Other = Wrong
 idItem m Nothing = Wrong
-
--- The id that a number stands for.
-abbrev pub idOf : ℕ → ℕ
-idOf x = x / 2
 
 -- A number below the limit was stored at its place; or there was none, or it is too large, or there is no place for it, and
 -- nothing was changed.
@@ -132,7 +128,7 @@ partialOf Start n new told = atStart
 partialOf Body n new told = gotId n
 partialOf Literals n new told = inLiterals n (map literalOf new)
 partialOf Hints n new told = inHints n (map literalOf new) (map hintOf told)
-partialOf Ids n new told = inIds (map idOf told)
+partialOf Ids n new told = inIds (map half told)
 
 -- There is an id once it is read, and there are no codes yet of what is still to come.
 abbrev pub Begun : Kind → ℕ → List ℕ → List ℕ → Type 0
@@ -184,7 +180,7 @@ pub record Adds (cells : ℕ) (p : Partial) (t : Token) (n end many : ℕ) (lits
 -- The token ends a deletion.
 pub record Deletes (p : Partial) (t : Token) (many : ℕ) (lits₀ lits hints₀ hints : List ℕ) : Type 0 where
   pub told : List ℕ
-  pub is : advance p t ≡ ends (delete (map idOf told))
+  pub is : advance p t ≡ ends (delete (map half told))
   pub noted : Placed hints₀ 0 told hints many
   pub same : lits ≡ lits₀
 

@@ -10,10 +10,10 @@ use Rattle.rules.specs.Text.{Token, tokens}
 use Rattle.rules.specs.Steps.{add, delete, readStep}
 use Rattle.text.specs.declared.Token.{Token as Found}
 use Rattle.text.specs.declared.Token.the-variants.{Nothing}
-use Rattle.clauses.specs.Codes.{literalOf, hintOf}
+use Rattle.clauses.specs.Codes.{literalOf, hintOf, half}
 use Rattle.formula.specs.Body.{Placed, AllBelow}
 use Rattle.steps.specs.Partials.{Partial, atStart, reach}
-use Rattle.steps.specs.Feeding.{idOf, IsId, TooLarge}
+use Rattle.steps.specs.Feeding.{IsId, TooLarge}
 use Rattle.steps.specs.declared.StepRead.{StepRead}
 use Rattle.steps.specs.declared.StepRead.the-variants.{Addition, Deletion, Nothing as NoStep, Unreadable, TooShort}
 
@@ -54,7 +54,7 @@ pub record StepAdded (cells : ℕ) (s : List ℕ) (at used : ℕ) (lits hints li
 -- for each id, and for the 0.
 pub record StepDeleted (s : List ℕ) (at : ℕ) (lits hints lits′ hints′ : List ℕ) (many next : ℕ) : Type 0 where
   pub told : List ℕ
-  pub is : readStep (tokens (drop at s)) ≡ some (delete (map idOf told), tokens (drop next s))
+  pub is : readStep (tokens (drop at s)) ≡ some (delete (map half told), tokens (drop next s))
   pub noted : Placed hints 0 told hints′ many
   pub same : lits′ ≡ lits
   pub turns : length (tokens (drop next s)) + (length told + 3) ≡ length (tokens (drop at s))

@@ -96,12 +96,12 @@ pub record Next (s : List ℕ) (at : ℕ) (found : Found) (n : ℕ) : Type 0 whe
   pub later : at < n
   pub within : n ≤ length s
 
-word-short : (t : List ℕ) → length (word t) ≤ length t
+pub word-short : (t : List ℕ) → length (word t) ≤ length t
 unfolding word
 word-short [] = omega arith
 word-short (b ∷ t) = bool-cases (isBlank b) (λ y. rw (y, word) (omega arith)) (λ n. rw (n, word) (omega (arith, word-short t)))
 
-blanks-short : (t : List ℕ) → blanks t ≤ length t
+pub blanks-short : (t : List ℕ) → blanks t ≤ length t
 unfolding blanks
 blanks-short [] = omega arith
 blanks-short (b ∷ t) = bool-cases (isBlank b) (λ y. rw (y, blanks) (omega (arith, blanks-short t))) (λ n. rw (n, blanks) (omega arith))
