@@ -1,6 +1,6 @@
 -- Literals and hints as numbers. A literal: 2v says that variable v is true, 2v + 1 that it is false.
 use Prim.Native.Nat.{ℕ, _+_, _-_, _*_, _/_, _%_}
-use mathlib.Core.Bool.{Bool, true, false}
+use mathlib.Core.Bool.{true, false}
 use lib.Dec.{eqb}
 use Rattle.meaning.specs.Meaning.{Literal, pos, neg}
 use Rattle.rules.specs.Steps.{Hint, look, group}

@@ -1,6 +1,6 @@
 -- What deleting clauses by their ids comes to, in terms of document 01's judgement of a deletion (rules' Judging) and of the
 -- store of live clauses (clauses' Store).
-use Prim.Native.Nat.{ℕ, zero, suc, _+_, _-_, _*_, _/_, _%_, _^_, _<_, _≤_}
+use Prim.Native.Nat.{ℕ, zero, suc, _+_, _-_, _*_, _%_, _^_, _<_, _≤_}
 use mathlib.Core.Path.{_≡_}
 use mathlib.Core.Bool.{true, false}
 use mathlib.Core.List.{List, map}

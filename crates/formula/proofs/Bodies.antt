@@ -1,22 +1,20 @@
 -- Reading a clause: what a token does, and the state of a reader between two tokens. Assumes nothing.
-use Prim.Native.Nat.{ℕ, zero, suc, _+_, _*_, _-_, _≤_, _<_, min}
+use Prim.Native.Nat.{ℕ, suc, _+_, _*_, _-_, _≤_, _<_}
 use mathlib.Core.Path.{_≡_, refl, sym, ap, _∙_}
-use mathlib.Core.Bool.{Bool, true, false}
+use mathlib.Core.Bool.{true, false}
 use mathlib.Core.List.{List, [], _∷_, _++_, map, append-assoc, append-nil}
 use mathlib.Core.Option.{Option, none, some}
 use native.Mathlib.Numerals.{add-one}
 use native.Mathlib.Omega.{arith}
-use borrow.Author.Tests.{le-leb, lt-leb, leb-true, leb-false}
+use borrow.Author.Tests.{le-leb, lt-leb, leb-true}
 use lib.Dec.{leb}
 use lib.ListN.{length, take, drop, getD, set, length-append, length-set, take-append-drop}
 use lib.Seq.{drop-cons, set-at, length-take-le}
-use Rattle.meaning.specs.Meaning.{Literal, pos, neg, Clause}
+use Rattle.meaning.specs.Meaning.{pos, neg, Clause}
 use Rattle.meaning.proofs.Truth.{bool-cases}
 use Rattle.rules.specs.Tools.{_>>=_}
-use Rattle.rules.specs.Limits.{maxVariable}
 use Rattle.rules.specs.Text.{Token, nought, plus, minus, letterD, other, isNought, tokens, literal}
 use Rattle.rules.specs.Formula.{items}
-use Rattle.rules.proofs.Options.{option-cases}
 use Rattle.text.specs.Scan.{most, capped, Scans}
 use Rattle.text.specs.declared.Token.{Token as Found}
 use Rattle.text.specs.declared.Token.the-variants.{Nought, Plus, Minus, LetterD, Other, Nothing}
@@ -26,8 +24,6 @@ use Rattle.clauses.proofs.Literals.{literal-code}
 use Rattle.formula.specs.Body.{itemOf, Placed, AllBelow, ClauseDone, ClauseBad, ClauseLong}
 use Rattle.formula.specs.declared.body.Item.{Item}
 use Rattle.formula.specs.declared.body.Item.the-variants.{Literal as Lit, End, Wrong}
-use Rattle.formula.specs.declared.body.ClauseRead.{ClauseRead}
-use Rattle.formula.specs.declared.body.ClauseRead.the-variants.{Done, Unreadable, TooShort}
 
 -- Tokens as items
 

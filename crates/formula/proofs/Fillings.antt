@@ -1,11 +1,10 @@
 -- Reading clauses one after the other into the store: the state between two clauses. Assumes nothing.
 use Prim.Native.Nat.{ℕ, zero, suc, _+_, _*_, _-_, _≤_, _<_}
 use mathlib.Core.Path.{_≡_, refl, sym, ap, subst, _∙_}
-use mathlib.Core.Logic.{_⊎_, inl, inr, ⊎-elim}
+use mathlib.Core.Logic.{inl, inr}
 use mathlib.Core.Bool.{Bool, true, false}
 use mathlib.Core.List.{List, [], _∷_, _++_, map, append-assoc, append-nil}
 use mathlib.Core.Option.{Option, none, some}
-use native.Mathlib.Numerals.{add-one}
 use native.Mathlib.Omega.{arith}
 use borrow.Author.Tests.{ltb-true, ltb-false}
 use lib.Dec.{ltb}
@@ -16,11 +15,10 @@ use Rattle.meaning.proofs.Truth.{bool-cases}
 use Rattle.rules.specs.Tools.{_>>=_}
 use Rattle.rules.specs.Text.{Token, tokens, literal}
 use Rattle.rules.specs.Formula.{items, readClauses}
-use Rattle.rules.specs.Judging.{Live}
 use Rattle.rules.specs.Answers.{numbered}
 use Rattle.rules.proofs.Running.{items-count}
 use Rattle.clauses.specs.Codes.{literalOf}
-use Rattle.clauses.specs.Store.{Store, Holds}
+use Rattle.clauses.specs.Store.{Holds}
 use Rattle.clauses.proofs.Holding.{holds-append, holds-literals, numbered-more}
 use Rattle.formula.specs.Body.{Placed, AllBelow, ClauseDone, ClauseBad, ClauseLong, ClauseCase, ReadsClause, CloseCase, Closes, BodyDone, BodyBad, BodyLong}
 use Rattle.formula.specs.declared.body.ClauseRead.{ClauseRead}

@@ -1,7 +1,7 @@
 -- The line `p cnf V C`: its prefix, and a whole slice as a number. Assumes nothing.
-use Prim.Native.Nat.{ℕ, zero, suc, _+_, _*_, _-_, _≤_, _<_, min}
+use Prim.Native.Nat.{ℕ, suc, _+_, _*_, _-_, _≤_, _<_}
 use mathlib.Core.Path.{_≡_, refl, sym, ap, _∙_}
-use mathlib.Core.Bool.{Bool, true, false, _&&_}
+use mathlib.Core.Bool.{Bool, true, false}
 use mathlib.Core.List.{List, [], _∷_}
 use mathlib.Core.Option.{Option, none, some}
 use native.Mathlib.Numerals.{add-one}
@@ -14,18 +14,17 @@ use Rattle.meaning.proofs.Truth.{bool-cases, and-both, clash}
 use Rattle.rules.specs.Tools.{bytes, only, _>>=_}
 use Rattle.rules.specs.Limits.{maxVariable, maxClauses}
 use Rattle.rules.specs.Text.{isBlank, isDigit, digits, positive, Token, nought, plus, minus, letterD, other, signed, sameBytes, token, word}
-use Rattle.rules.specs.Formula.{afterPrefix, before, behind, count, header}
-use Rattle.rules.proofs.Options.{none-some, some-none, some-inj, option-cases}
+use Rattle.rules.specs.Formula.{afterPrefix, count, header}
+use Rattle.rules.proofs.Options.{none-some, option-cases}
 use Rattle.rules.proofs.Words.{digit-not-blank}
 use Rattle.text.specs.Scan.{most, blanks, capped, tokenOf, Scans}
 use Rattle.text.specs.declared.Token.{Token as Found}
-use Rattle.text.specs.declared.Token.the-variants.{Nought, Plus, Minus, LetterD, Other, Nothing}
+use Rattle.text.specs.declared.Token.the-variants.{Plus}
 use Rattle.text.proofs.Tokens.{capped-test, capped-same}
 use Rattle.clauses.proofs.Parts.{part-rest, part-slice}
 use Rattle.formula.specs.Opening.{FirstAt, counted, countOf, headerOf, withClauses}
 use Rattle.formula.specs.declared.opening.Count.{Count}
 use Rattle.formula.specs.declared.opening.Count.the-variants.{Of, Wrong}
-use Rattle.formula.specs.declared.opening.Header.{Header}
 use Rattle.formula.specs.declared.opening.Header.the-variants.{Of as Announces, Wrong as NoHeader}
 
 -- A token as a number

@@ -1,32 +1,31 @@
 -- A whole formula: its end, its clauses, its first line. Assumes nothing.
-use Prim.Native.Nat.{ℕ, zero, suc, _+_, _*_, _-_, _/_, _≤_, _<_}
+use Prim.Native.Nat.{ℕ, _+_, _*_, _-_, _/_, _≤_, _<_}
 use mathlib.Core.Path.{_≡_, refl, sym, ap, subst, _∙_}
 use mathlib.Core.Logic.{_⊎_, inl, inr, ⊎-elim}
 use mathlib.Core.Bool.{Bool, true, false}
 use mathlib.Core.List.{List, [], _∷_}
 use mathlib.Core.Option.{Option, none, some}
 use native.Mathlib.Omega.{arith}
-use lib.ListN.{length, take, drop, getD, set, length-set, length-drop, drop-of-length-le}
-use lib.Seq.{slice, getD-set-same}
+use lib.ListN.{length, take, drop, set, length-set, length-drop, drop-of-length-le}
+use lib.Seq.{getD-set-same}
 use Rattle.meaning.specs.Meaning.{Clause, Formula}
 use Rattle.meaning.proofs.Truth.{clash}
 use Rattle.rules.specs.Tools.{_>>=_}
 use Rattle.rules.specs.Text.{Token, tokens}
-use Rattle.rules.specs.Formula.{afterComments, before, behind, header, readClauses, atEnd, readFormula}
-use Rattle.rules.specs.Answers.{numbered}
+use Rattle.rules.specs.Formula.{afterComments, before, behind, header, readClauses, readFormula}
 use Rattle.rules.proofs.Counting.{tokens-few}
-use Rattle.rules.proofs.Limited.{Announced, header-limited, ClausesWithin, clauses-within}
+use Rattle.rules.proofs.Limited.{Announced, header-limited, clauses-within}
 use Rattle.rules.proofs.Words.{tokens-proper}
 use Rattle.text.specs.Scan.{Scans}
 use Rattle.text.specs.declared.Token.{Token as Found}
 use Rattle.text.specs.declared.Token.the-variants.{Nought, Plus, Minus, LetterD, Other, Nothing}
-use Rattle.text.proofs.Tokens.{scanned-nothing, scanned-token, Next}
+use Rattle.text.proofs.Tokens.{scanned-nothing, scanned-token}
 use Rattle.clauses.specs.Store.{Holds}
 use Rattle.clauses.proofs.Holding.{holds-empty}
 use Rattle.clauses.proofs.Parts.{part-slice}
 use Rattle.formula.specs.Opening.{AfterComments, FirstAt, headerOf}
 use Rattle.formula.specs.Body.{BodyDone, BodyBad, BodyLong, BodyCase, ReadsBody, greatest}
-use Rattle.formula.specs.Reading.{EndedCase, Ended, Behind, restOf, FinishCase, Finishes, IsStored, IsUnreadable, IsTooShort, ReadCase, ReadsRest, Reads}
+use Rattle.formula.specs.Reading.{EndedCase, Ended, Behind, restOf, FinishCase, Finishes, ReadCase, ReadsRest, Reads}
 use Rattle.formula.specs.declared.body.BodyRead.{BodyRead}
 use Rattle.formula.specs.declared.body.BodyRead.the-variants.{Done, Unreadable as AllUnreadable, TooShort as AllTooShort}
 use Rattle.formula.specs.declared.FormulaRead.{FormulaRead}

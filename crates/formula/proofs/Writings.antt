@@ -1,19 +1,16 @@
 -- Writing a formula out: from what reading and writing say of the store to what they say of the bytes. Assumes nothing.
-use Prim.Native.Nat.{ℕ, _+_, _*_, _<_, _≤_}
+use Prim.Native.Nat.{ℕ, _+_}
 use mathlib.Core.Path.{_≡_, refl, sym, ap, subst, _∙_}
-use mathlib.Core.Logic.{_⊎_}
 use mathlib.Core.List.{List, _++_}
-use mathlib.Core.Option.{Option, none, some}
 use lib.ListN.{length, drop}
 use Rattle.meaning.specs.Meaning.{Formula}
 use Rattle.rules.specs.Formula.{readFormula}
 use Rattle.rules.specs.Written.{writeFormula}
-use Rattle.clauses.specs.Store.{Store, Holds, clausesOf}
 use Rattle.clauses.proofs.Plain.{holds-plain}
 use Rattle.writer.specs.Text.{Formed, formulaOf, WroteFormula, FitsWhole, IsTooLong as Overlong}
 use Rattle.writer.proofs.Stored.{store-formed}
 use Rattle.formula.specs.Reading.{IsStored, IsUnreadable, IsTooShort, ReadCase, Reads}
-use Rattle.formula.specs.Writing.{IsWritten, IsTooLong, StoredCase, WritesStored, Spelled, WriteCase, Writes}
+use Rattle.formula.specs.Writing.{StoredCase, WritesStored, WriteCase, Writes}
 use Rattle.formula.specs.declared.FormulaRead.{FormulaRead}
 use Rattle.formula.specs.declared.FormulaRead.the-variants.{Stored, Unreadable, TooShort}
 use Rattle.formula.specs.declared.FormulaWritten.{FormulaWritten}

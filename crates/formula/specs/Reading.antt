@@ -6,7 +6,7 @@ use mathlib.Core.Bool.{Bool, true, false}
 use mathlib.Core.List.{List, [], _∷_}
 use mathlib.Core.Option.{Option, none, some}
 use lib.ListN.{length, take, drop, getD}
-use Rattle.meaning.specs.Meaning.{Clause, Formula}
+use Rattle.meaning.specs.Meaning.{Formula}
 use Rattle.rules.specs.Tools.{_>>=_}
 use Rattle.rules.specs.Text.{Token, tokens}
 use Rattle.rules.specs.Formula.{readClauses, atEnd, readFormula}

@@ -1,9 +1,9 @@
 -- What writing a formula comes to, in terms of document 01's `readFormula` and of `writeFormula`.
-use Prim.Native.Nat.{ℕ, _+_, _*_, _<_, _≤_}
+use Prim.Native.Nat.{ℕ, _+_, _*_, _<_}
 use mathlib.Core.Path.{_≡_}
 use mathlib.Core.Logic.{_⊎_}
 use mathlib.Core.List.{List, _++_}
-use mathlib.Core.Option.{Option, none, some}
+use mathlib.Core.Option.{none, some}
 use lib.ListN.{length, drop}
 use Rattle.meaning.specs.Meaning.{Formula}
 use Rattle.rules.specs.Formula.{readFormula}

@@ -9,7 +9,6 @@ use native.Mathlib.Numerals.{add-one}
 use borrow.Author.Tests.{eqb-true, eqb-false, eq-eqb, ne-eqb}
 use lib.Dec.{eqb}
 use lib.ListN.{length, getD, take, drop}
-use lib.Seq.{slice, take-add, drop-at, length-take-le}
 use Rattle.meaning.specs.Meaning.{Literal, Clause}
 use Rattle.meaning.proofs.Truth.{bool-cases}
 use Rattle.rules.specs.Judging.{Live, among, containing, groups, mismatch, leading}

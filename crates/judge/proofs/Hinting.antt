@@ -2,11 +2,11 @@
 use Prim.Native.Nat.{ℕ, _+_, _-_, _*_, _^_, _<_, _≤_}
 use mathlib.Core.Path.{_≡_, refl, sym, ap, subst, _∙_}
 use mathlib.Core.Logic.{_⊎_, ⊎-elim}
-use mathlib.Core.List.{List, _++_, map}
+use mathlib.Core.List.{List, map}
 use mathlib.Core.Option.{none}
 use native.Mathlib.Omega.{arith}
 use lib.ListN.{length, getD, take, drop, length-map}
-use lib.Seq.{slice, take-add, drop-at, length-take-le, length-slice, getD-drop, getD-take}
+use lib.Seq.{slice, length-slice, getD-drop, getD-take}
 use lib.Pow.{pow-mono, pow-add}
 use Rattle.rules.specs.Judging.{lookAt}
 use Rattle.clauses.specs.Codes.{literalOf}

@@ -1,9 +1,8 @@
 -- Small formulas, with and without a solution, so that a wrong definition is seen at once. Assumes nothing.
-use mathlib.Core.Path.{_≡_, refl}
+use mathlib.Core.Path.{refl}
 use mathlib.Core.Logic.{inl, inr}
-use mathlib.Core.Bool.{Bool, true, false}
-use mathlib.Core.List.{List, [], _∷_}
-use Rattle.meaning.specs.Meaning.{Literal, pos, neg, Clause, Formula, Assignment, Solves, Unsolvable}
+use mathlib.Core.List.{[], _∷_}
+use Rattle.meaning.specs.Meaning.{pos, neg, Assignment, Solves, Unsolvable}
 use Rattle.meaning.proofs.Truth.{bool-cases}
 
 -- The formula with no clause: every assignment is a solution.

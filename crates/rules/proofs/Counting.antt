@@ -1,12 +1,11 @@
 -- How many tokens a text can have: each takes a byte, and a blank stands between two. Assumes nothing.
-use Prim.Native.Nat.{ℕ, zero, suc, _+_, _*_, _≤_}
-use mathlib.Core.Path.{_≡_, refl}
+use Prim.Native.Nat.{ℕ, _+_, _*_, _≤_}
 use mathlib.Core.Bool.{Bool, true, false}
-use mathlib.Core.List.{List, [], _∷_, map}
+use mathlib.Core.List.{List, [], _∷_}
 use native.Mathlib.Omega.{arith}
 use lib.ListN.{length, length-map}
 use Rattle.meaning.proofs.Truth.{bool-cases}
-use Rattle.rules.specs.Text.{Token, isBlank, token, word, wordsFrom, tokens}
+use Rattle.rules.specs.Text.{isBlank, token, wordsFrom, tokens}
 
 -- Behind a blank there may be one word more than behind a part of a word.
 abbrev room : Bool → ℕ

@@ -1,15 +1,14 @@
 -- A number that is written in decimal is read as itself. Assumes nothing.
-use Prim.Native.Nat.{ℕ, zero, suc, _+_, _*_, _-_, _/_, _%_, _≤_, _<_}
-use mathlib.Core.Path.{_≡_, refl, sym, ap, _∙_}
-use mathlib.Core.Bool.{Bool, true, false, _&&_}
+use Prim.Native.Nat.{ℕ, zero, suc, _+_, _-_, _/_, _%_, _≤_, _<_}
+use mathlib.Core.Path.{_≡_, ap, _∙_}
+use mathlib.Core.Bool.{true}
 use mathlib.Core.List.{List, [], _∷_}
-use mathlib.Core.Option.{Option, none, some}
+use mathlib.Core.Option.{some}
 use native.Mathlib.Omega.{arith}
-use borrow.Author.Tests.{ltb-true, ltb-false, le-leb, ne-eqb, eq-eqb}
-use lib.Dec.{eqb, leb, ltb}
+use borrow.Author.Tests.{ltb-true, ltb-false, le-leb, ne-eqb}
+use lib.Dec.{ltb}
 use Rattle.meaning.proofs.Truth.{bool-cases, both-and}
-use Rattle.rules.specs.Tools.{bytes}
-use Rattle.rules.specs.Text.{isBlank, isDigit, digits, positive, Token, nought, plus, minus, signed, sameBytes, token}
+use Rattle.rules.specs.Text.{isDigit, digits, positive, plus, minus, signed, sameBytes, token}
 use Rattle.rules.specs.Written.{decimalOnto, decimal}
 use Rattle.rules.proofs.Words.{digit-range, digit-not-blank, NoBlank}
 

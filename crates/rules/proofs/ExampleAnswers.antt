@@ -2,7 +2,7 @@
 -- `ends` the ground of a refusal as well. Assumes nothing.
 use Prim.Native.String.{String}
 use mathlib.Core.Path.{_≡_, refl}
-use mathlib.Core.Option.{Option, none, some}
+use mathlib.Core.Option.{none, some}
 use Rattle.rules.specs.Tools.{bytes}
 use Rattle.rules.specs.Judging.{
   Ground,

@@ -2,9 +2,9 @@
 -- docs/DECISIONS.md decides. Assumes nothing.
 use Prim.Native.String.{String}
 use mathlib.Core.Path.{_≡_, refl}
-use mathlib.Core.List.{List, [], _∷_}
+use mathlib.Core.List.{[], _∷_}
 use mathlib.Core.Option.{Option, none, some}
-use Rattle.meaning.specs.Meaning.{Literal, pos, neg, Formula}
+use Rattle.meaning.specs.Meaning.{pos, neg, Formula}
 use Rattle.rules.specs.Tools.{bytes}
 use Rattle.rules.specs.Formula.{header, readFormula}
 use Rattle.rules.specs.Written.{writeFormula}

@@ -1,15 +1,14 @@
 -- Live ids rise, each is positive and at most the last id: at the start, and after every step. So an id finds the one clause
 -- that has it. Assumes nothing.
-use Prim.Native.Nat.{ℕ, zero, suc, _+_, _≤_, _<_}
-use mathlib.Core.Path.{_≡_, refl, sym, ap, _∙_}
-use mathlib.Core.Bool.{Bool, true, false}
+use Prim.Native.Nat.{ℕ, suc, _+_, _≤_, _<_}
+use mathlib.Core.Path.{_≡_, refl, sym}
 use mathlib.Core.List.{List, [], _∷_, _++_}
 use mathlib.Core.Option.{Option, none, some}
 use native.Mathlib.Omega.{arith}
 use borrow.Author.Tests.{eqb-true, eq-eqb, ne-eqb, ltb-true}
 use lib.Dec.{eqb, ltb}
 use lib.ListN.{length}
-use Rattle.meaning.specs.Meaning.{Literal, Clause, Formula}
+use Rattle.meaning.specs.Meaning.{Clause, Formula}
 use Rattle.meaning.proofs.Truth.{bool-cases}
 use Rattle.rules.specs.Steps.{Hint, Step, add, delete}
 use Rattle.rules.specs.Judging.{
@@ -30,7 +29,7 @@ use Rattle.rules.specs.Judging.{
   judge,
 }
 use Rattle.rules.specs.Answers.{numbered, start}
-use Rattle.rules.proofs.Options.{none-some, some-none, some-inj, option-cases}
+use Rattle.rules.proofs.Options.{none-some, some-none}
 
 -- The ids are above `low`, each is above the one before it, and all are at most `last`.
 abbrev pub Rising : ℕ → Live → ℕ → Type 0

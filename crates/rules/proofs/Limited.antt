@@ -1,10 +1,10 @@
 -- A formula that is read is within the limits: V and the number of clauses, and each literal's variable is one of 1 to V.
 -- Assumes nothing.
 use Prim.Native.Nat.{ℕ, zero, suc, _≤_}
-use mathlib.Core.Path.{_≡_, refl, sym, ap, _∙_}
-use mathlib.Core.Bool.{Bool, true, false}
+use mathlib.Core.Path.{_≡_, refl, ap}
+use mathlib.Core.Bool.{false}
 use mathlib.Core.List.{List, [], _∷_}
-use mathlib.Core.Option.{Option, none, some}
+use mathlib.Core.Option.{some}
 use native.Mathlib.Omega.{arith}
 use borrow.Author.Tests.{leb-true}
 use lib.Dec.{leb}
@@ -15,7 +15,7 @@ use Rattle.rules.specs.Tools.{bytes, _>>=_}
 use Rattle.rules.specs.Limits.{maxVariable, maxClauses}
 use Rattle.rules.specs.Text.{Token, nought, plus, minus, letterD, other, isNought, token, tokens, literal}
 use Rattle.rules.specs.Formula.{afterComments, before, behind, afterPrefix, count, header, items, readClauses, atEnd, readFormula, WithinLimits}
-use Rattle.rules.proofs.Options.{none-some, some-inj, bound, Bound, only-some, Passed}
+use Rattle.rules.proofs.Options.{none-some, some-inj, bound, only-some}
 use Rattle.rules.proofs.Words.{Proper, AllProper, tokens-proper}
 
 count-limited : (m : ℕ) (t : Token) (n : ℕ) → count m t ≡ some n → n ≤ m

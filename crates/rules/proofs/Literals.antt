@@ -1,8 +1,8 @@
 -- Laws of literals: comparing them, and what an assignment makes of them and of their opposites. Assumes nothing.
 use mathlib.Core.Path.{_≡_, refl, ap}
 use mathlib.Core.Logic.{⊎-elim}
-use mathlib.Core.Bool.{Bool, true, false, not, _||_, false≢true}
-use mathlib.Core.List.{List, [], _∷_}
+use mathlib.Core.Bool.{true, false, not, false≢true}
+use mathlib.Core.List.{[], _∷_}
 use borrow.Author.Tests.{eqb-true, eq-eqb}
 use Rattle.meaning.specs.Meaning.{Literal, pos, neg, Clause, Assignment, holds, satisfies}
 use Rattle.meaning.proofs.Truth.{bool-cases, clash, or-cases, or-left, or-right}

@@ -1,19 +1,18 @@
 -- A formula that is written out and read again is the same, clause by clause and literal by literal. Assumes nothing.
 use Prim.Native.Nat.{ℕ, zero, suc, _≤_}
-use mathlib.Core.Path.{_≡_, refl, sym, ap, _∙_}
-use mathlib.Core.Bool.{Bool, true, false}
+use mathlib.Core.Path.{_≡_, refl, ap, _∙_}
+use mathlib.Core.Bool.{false}
 use mathlib.Core.List.{List, [], _∷_, _++_, append-assoc}
-use mathlib.Core.Option.{Option, none, some}
+use mathlib.Core.Option.{some}
 use native.Mathlib.Omega.{arith}
 use borrow.Author.Tests.{le-leb, ne-eqb, eq-eqb}
-use lib.Dec.{eqb, leb}
+use lib.Dec.{eqb}
 use lib.ListN.{length}
 use Rattle.meaning.specs.Meaning.{Literal, pos, neg, Clause, Formula, variable, Within, AllWithin}
-use Rattle.meaning.proofs.Truth.{bool-cases}
 use Rattle.rules.specs.Tools.{bytes, _>>=_}
 use Rattle.rules.specs.Limits.{maxVariable, maxClauses}
-use Rattle.rules.specs.Text.{isBlank, isDigit, Token, nought, plus, minus, letterD, other, isNought, token, tokens, wordsFrom, literal}
-use Rattle.rules.specs.Formula.{afterComments, before, behind, afterPrefix, count, header, items, readClauses, atEnd, readFormula, WithinLimits}
+use Rattle.rules.specs.Text.{isBlank, Token, nought, plus, minus, isNought, token, tokens, literal}
+use Rattle.rules.specs.Formula.{afterComments, before, behind, afterPrefix, count, header, items, readClauses, readFormula, WithinLimits}
 use Rattle.rules.specs.Written.{decimal, writeLiteral, writeClause, writeClauses, writeFormula}
 use Rattle.rules.proofs.Words.{digit-range, NoBlank, tokens-word}
 use Rattle.rules.proofs.Decimal.{Begins, decimal-begins, AllDigits, decimal-digits, digits-no-blank, token-plus, token-minus}

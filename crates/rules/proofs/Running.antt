@@ -1,22 +1,21 @@
 -- The run over a proof's steps: a step takes tokens, so the fuel does not matter; an unreadable step is found before it is
 -- judged; and every state that a run comes to is orderly. Assumes nothing.
-use Prim.Native.Nat.{ℕ, zero, suc, _+_, _<_, _≤_}
-use mathlib.Core.Path.{_≡_, refl, sym, ap, _∙_}
-use mathlib.Core.Bool.{Bool, true, false}
+use Prim.Native.Nat.{ℕ, zero, suc, _+_, _<_}
+use mathlib.Core.Path.{_≡_, refl}
 use mathlib.Core.List.{List, [], _∷_}
 use mathlib.Core.Option.{Option, none, some}
 use native.Mathlib.Omega.{arith}
 use lib.ListN.{length}
-use Rattle.meaning.specs.Meaning.{Literal, Clause, Formula}
+use Rattle.meaning.specs.Meaning.{Formula}
 use Rattle.meaning.proofs.Truth.{bool-cases}
 use Rattle.rules.specs.Tools.{_>>=_}
 use Rattle.rules.specs.Limits.{maxVariable}
 use Rattle.rules.specs.Text.{Token, isNought, isLetterD, literal}
 use Rattle.rules.specs.Formula.{items}
-use Rattle.rules.specs.Steps.{Hint, Step, add, delete, clauseId, hint, stepBody, readStep}
+use Rattle.rules.specs.Steps.{Step, add, delete, clauseId, hint, stepBody, readStep}
 use Rattle.rules.specs.Judging.{State, Judged, refused, addsEmpty, goesOn, judge}
-use Rattle.rules.specs.Answers.{Ending, endsUnreadableStep, run, start}
-use Rattle.rules.proofs.Options.{none-some, some-inj, bound, Bound}
+use Rattle.rules.specs.Answers.{endsUnreadableStep, run, start}
+use Rattle.rules.proofs.Options.{none-some, bound}
 use Rattle.rules.proofs.Ids.{Orderly, OrderlyJudged, start-orderly, judge-orderly}
 
 -- Items and the 0 behind them take a token each.

@@ -4,19 +4,19 @@
 use Prim.Native.Nat.{ℕ, zero, suc}
 use mathlib.Core.Path.{_≡_, refl, sym, ap, subst, _∙_}
 use mathlib.Core.Logic.{_⊎_, inl, inr, ⊎-elim}
-use mathlib.Core.Bool.{Bool, true, false, not, _&&_, _||_, true≢false, false≢true}
+use mathlib.Core.Bool.{true, false, _||_, false≢true}
 use mathlib.Core.List.{List, [], _∷_, _++_, map, append-nil}
 use mathlib.Core.Option.{Option, none, some}
 use native.Mathlib.Omega.{arith}
 use borrow.Author.Tests.{eqb-true, eq-eqb}
 use lib.Dec.{eqb, ltb}
 use lib.ListN.{length}
-use Rattle.meaning.specs.Meaning.{Literal, pos, neg, Clause, Formula, Assignment, holds, satisfies, satisfiesAll, Solves, Unsolvable}
+use Rattle.meaning.specs.Meaning.{Literal, pos, neg, Clause, Formula, Assignment, holds, satisfies, satisfiesAll, Unsolvable}
 use Rattle.meaning.proofs.Truth.{bool-cases, clash, or-cases, or-left, or-right, or-neither, and-both}
 use Rattle.meaning.proofs.Solutions.{no-assignment-solves}
 use Rattle.rules.specs.Text.{Token, tokens}
 use Rattle.rules.specs.Formula.{readFormula}
-use Rattle.rules.specs.Steps.{Hint, look, group, Step, add, delete, readStep}
+use Rattle.rules.specs.Steps.{Hint, Step, add, delete, readStep}
 use Rattle.rules.specs.Judging.{
   opposite,
   sameLiteral,

@@ -8,7 +8,7 @@ use Rattle.meaning.specs.Meaning.{Clause, Formula, Unsolvable}
 use Rattle.rules.specs.Text.{Token, tokens}
 use Rattle.rules.specs.Formula.{readFormula}
 use Rattle.rules.specs.Steps.{readStep}
-use Rattle.rules.specs.Judging.{Live, Ground, State, Judged, refused, addsEmpty, goesOn, judge}
+use Rattle.rules.specs.Judging.{Live, Ground, State, refused, addsEmpty, goesOn, judge}
 
 -- How a check ends, with the ground of a refusal.
 pub data Ending : Type 0 where

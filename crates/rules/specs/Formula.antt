@@ -5,7 +5,7 @@ use mathlib.Core.List.{List, [], _∷_}
 use mathlib.Core.Option.{Option, none, some}
 use lib.Dec.{eqb, leb}
 use lib.ListN.{length}
-use Rattle.meaning.specs.Meaning.{Literal, Clause, Formula, AllWithin}
+use Rattle.meaning.specs.Meaning.{Clause, Formula, AllWithin}
 use Rattle.rules.specs.Tools.{bytes, _>>=_, only}
 use Rattle.rules.specs.Limits.{maxVariable, maxClauses}
 use Rattle.rules.specs.Text.{Token, nought, plus, minus, letterD, other, isNought, token, tokens, literal}

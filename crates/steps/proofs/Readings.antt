@@ -10,7 +10,7 @@ use borrow.Author.Tests.{ltb-true, ltb-false}
 use lib.Dec.{ltb}
 use lib.ListN.{length, drop, length-append, length-drop, length-map, take-append-drop}
 use Rattle.meaning.proofs.Truth.{bool-cases, clash}
-use Rattle.rules.specs.Text.{isBlank, Token, word, tokens}
+use Rattle.rules.specs.Text.{Token, tokens}
 use Rattle.rules.specs.Steps.{add, delete, readStep}
 use Rattle.text.specs.Scan.{blanks, Scans}
 use Rattle.text.specs.declared.Token.{Token as Found}

@@ -1,20 +1,20 @@
 -- For callers of `token_at`: what it found is the next token of the text from there on, and its number passes the same tests.
 -- Assumes nothing.
-use Prim.Native.Nat.{ℕ, zero, suc, _+_, _-_, _≤_, _<_, min}
-use mathlib.Core.Path.{_≡_, refl, sym, ap, _∙_}
-use mathlib.Core.Bool.{Bool, true, false}
-use mathlib.Core.List.{List, [], _∷_, map}
+use Prim.Native.Nat.{ℕ, _+_, _-_, _≤_, _<_, min}
+use mathlib.Core.Path.{_≡_, refl, ap, _∙_}
+use mathlib.Core.Bool.{true, false}
+use mathlib.Core.List.{List, [], _∷_}
 use native.Mathlib.Omega.{arith}
 use borrow.Author.Tests.{le-leb, lt-leb, leb-true, leb-false}
 use lib.Dec.{leb}
-use lib.ListN.{length, drop, getD, length-drop}
+use lib.ListN.{length, drop, length-drop}
 use lib.Seq.{drop-drop}
-use Rattle.meaning.proofs.Truth.{bool-cases, clash}
+use Rattle.meaning.proofs.Truth.{bool-cases}
 use Rattle.rules.specs.Text.{isBlank, Token, nought, plus, minus, letterD, other, token, word, wordsFrom, tokens}
 use Rattle.rules.proofs.Words.{tokens-blank, Proper, token-proper}
 use Rattle.text.specs.Scan.{most, blanks, capped, tokenOf, Scans}
 use Rattle.text.specs.declared.Token.{Token as Found}
-use Rattle.text.specs.declared.Token.the-variants.{Nought, Plus, Minus, LetterD, Other, Nothing}
+use Rattle.text.specs.declared.Token.the-variants.{Nothing}
 
 -- Limits: a number that stays at `most` passes and fails the same tests.
 

@@ -1,7 +1,7 @@
 -- A word at a place of a text as a token, by its first byte. Assumes nothing.
-use Prim.Native.Nat.{ℕ, zero, suc, _+_, _≤_, _<_, min}
+use Prim.Native.Nat.{ℕ, _+_, _≤_, _<_, min}
 use mathlib.Core.Path.{_≡_, refl, sym, ap, _∙_}
-use mathlib.Core.Bool.{Bool, true, false}
+use mathlib.Core.Bool.{true, false}
 use mathlib.Core.List.{List, [], _∷_}
 use mathlib.Core.Option.{Option, none, some}
 use native.Mathlib.Omega.{arith}
@@ -9,7 +9,7 @@ use borrow.Author.Tests.{ne-eqb}
 use lib.ListN.{length, drop, getD}
 use lib.Seq.{drop-drop}
 use Rattle.meaning.proofs.Truth.{clash}
-use Rattle.rules.specs.Text.{isBlank, isDigit, digits, positive, signed, sameBytes, token, word}
+use Rattle.rules.specs.Text.{isBlank, positive, signed, sameBytes, token, word}
 use Rattle.rules.proofs.Words.{positive-above-0}
 use Rattle.text.specs.Scan.{most, blanks, endsWord, sized, Positive, tokenOf, OneByte, Plain, Guessing, Wording, Scans, isOther}
 use Rattle.text.specs.declared.Token.{Token}

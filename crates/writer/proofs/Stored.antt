@@ -1,13 +1,13 @@
 -- The clauses of the store, one by one, and their texts. Assumes nothing.
 use Prim.Native.Nat.{ℕ, zero, suc, _+_, _-_, _*_, _≤_, _<_}
-use mathlib.Core.Path.{_≡_, refl, sym, ap, _∙_}
+use mathlib.Core.Path.{_≡_, sym, ap, _∙_}
 use mathlib.Core.List.{List, [], _∷_, _++_, map}
 use native.Mathlib.Numerals.{add-one}
 use native.Mathlib.Omega.{arith}
 use borrow.Author.Tests.{ltb-true, ltb-false}
 use lib.Dec.{ltb}
-use lib.ListN.{length, take, drop, getD, length-append, drop-of-length-le, List·getD-append}
-use lib.Seq.{drop-cons, drop-at, getD-at, take-add, length-take-le, slice}
+use lib.ListN.{length, take, drop, getD, drop-of-length-le, List·getD-append}
+use lib.Seq.{drop-cons, getD-at}
 use Rattle.meaning.proofs.Truth.{bool-cases}
 use Rattle.rules.specs.Written.{writeClause, writeClauses}
 use Rattle.clauses.specs.Codes.{literalOf}

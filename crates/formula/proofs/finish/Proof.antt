@@ -1,5 +1,5 @@
 -- `formula::finish` meets its contract. Assumes nothing.
-use mathlib.Core.Path.{sym, _∙_, ap}
+use mathlib.Core.Path.{ap}
 use Prim.Native.Nat.{ℕ, _/_}
 use borrow.Author.Tests.{not-true, not-false}
 use Rattle.formula.proofs.Wholes.{finish-bad, finish-good}

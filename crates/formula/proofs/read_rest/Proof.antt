@@ -1,9 +1,6 @@
 -- `formula::read_rest` meets its contract: an empty store, the clauses, the end. Assumes nothing.
 use Rattle.formula.proofs.Wholes.{begun-long}
-use native.Mathlib.Omega.{arith}
-use mathlib.Core.Path.{sym, _∙_, refl}
-use lib.ListN.{length-set}
-use Rattle.formula.proofs.Wholes.{behind-end, behind-feed, begun, rest-short, rest-unreadable, rest-too-short, rest-fits, rest-finished}
+use Rattle.formula.proofs.Wholes.{begun, rest-short, rest-unreadable, rest-too-short, rest-fits, rest-finished}
 use borrow.Author.Needs.{needs}
 use Rattle.formula.proofs.read_rest.Statement.{statement}
 use Rattle.formula.proofs.read_rest.Tie as tie

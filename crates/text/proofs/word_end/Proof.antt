@@ -3,7 +3,6 @@
 use Prim.Native.Nat.{_-_}
 use mathlib.Core.Path.{sym, ap, _∙_}
 use borrow.Author.Needs.{needs}
-use borrow.Author.Tests.{not-true, not-false}
 use lib.ListN.{length}
 use Rattle.text.proofs.Places.{word-end, word-stop, word-on, wordLength, Passed, passed-start, passed-on, passed-done}
 use Rattle.text.proofs.word_end.Statement.{statement}

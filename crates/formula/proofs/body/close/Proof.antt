@@ -1,7 +1,4 @@
 -- `body::close` meets its contract: the clause is appended if there is room for it. Assumes nothing.
-use mathlib.Core.Path.{_∙_, ap}
-use lib.ListN.{set}
-use native.Mathlib.Omega.{arith}
 use borrow.Author.Needs.{needs}
 use Rattle.formula.proofs.body.close.Statement.{statement}
 use Rattle.formula.proofs.body.close.Tie as tie

@@ -1,7 +1,6 @@
 -- `body::greatest_code` meets its contract. The loop's invariant: `top` is the greatest of the first i numbers. The measure is
 -- what is left of them. Assumes nothing.
 use Prim.Native.Nat.{_-_}
-use native.Mathlib.Omega.{arith}
 use Rattle.formula.proofs.Greatest.{Topping, topping-start, topping-on, topping-done}
 use borrow.Author.Needs.{needs}
 use Rattle.formula.proofs.body.greatest_code.Statement.{statement}

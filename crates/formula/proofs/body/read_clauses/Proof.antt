@@ -2,10 +2,9 @@
 -- says (`Filling`). The measure is the number of clauses that are still to come. Assumes nothing.
 use Rattle.formula.proofs.Fillings.{reads-long, closes-long}
 use Prim.Native.Nat.{_-_}
-use mathlib.Core.Path.{sym, _∙_}
+use mathlib.Core.Path.{_∙_}
 use native.Mathlib.Omega.{arith}
 use borrow.Author.Tests.{not-true, not-false}
-use lib.ListN.{length}
 use Rattle.formula.proofs.Fillings.{Filling, filling-start, filling-done, filling-bad, filling-long, filling-full, filling-on}
 use borrow.Author.Needs.{needs}
 use Rattle.formula.proofs.body.read_clauses.Statement.{statement}

@@ -1,6 +1,5 @@
 -- `opening::with_clauses` meets its contract. Assumes nothing.
 use Rattle.rules.specs.Limits.{maxClauses}
-use mathlib.Core.Path.{sym, _∙_}
 use Rattle.formula.proofs.Headers.{count-past, with-some, with-none}
 use borrow.Author.Needs.{needs}
 use Rattle.formula.proofs.opening.with_clauses.Statement.{statement}
