@@ -2,8 +2,8 @@
 // deleted clauses give their room back. specs/Store.antt says which live clauses two slices hold. Nothing is promised of
 // slices that hold no store; that what a function leaves is a store again is said by laws in proofs/, not by its contract.
 ghost use mathlib.Core.Path.{_≡_};
-ghost use Prim.Native.Nat.{ℕ, _+_, _-_, _*_, _%_, _<_, _≤_, _^_};
-ghost use lib.ListN.{length, getD, set};
+ghost use Prim.Native.Nat.{_+_, _-_, _*_, _%_, _<_, _≤_, _^_};
+ghost use lib.ListN.{length, set};
 ghost use Rattle.clauses.specs.Codes.{oppositeCode};
 ghost use Rattle.clauses.specs.Store.{idAt};
 ghost use Rattle.clauses.specs.Finding.{Searchable, FoundIn, turnsOf, Halvings, AtMostHalvings, reachedBy};

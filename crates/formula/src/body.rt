@@ -4,7 +4,7 @@
 // closed, and the bytes passed for the leaves below.
 use text::Token;
 ghost use mathlib.Core.Path.{_≡_};
-ghost use Prim.Native.Nat.{ℕ, _+_, _*_, _<_, _≤_, _^_, max};
+ghost use Prim.Native.Nat.{_+_, _*_, _<_, _≤_, _^_, max};
 ghost use lib.ListN.{length, take, set};
 ghost use mathlib.Core.List.{[]};
 ghost use Rattle.rules.specs.Limits.{maxVariable, maxClauses};
@@ -25,9 +25,9 @@ fn narrow(x: u64) -> u32
     x as u32
 }
 
-// What a token says in a clause over variables up to `vars`.
+// What a token says in a clause over variables up to `vars`. Hints and ids of a proof have codes of the same kind.
 pub fn item_of(t: Token, vars: u64) -> Item
-    requires { ⌜ vars ≤ maxVariable ⌝ }
+    requires { ⌜ vars < 2 ^ 31 ⌝ }
     ensures { λ r. ⌜ r ≡ itemOf vars t ⌝ }
 {
     match t {

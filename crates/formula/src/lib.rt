@@ -11,7 +11,7 @@ use opening::Header;
 use text::Token;
 use writer::Fit;
 ghost use mathlib.Core.Path.{_≡_};
-ghost use Prim.Native.Nat.{ℕ, _+_, _*_, _<_, _≤_};
+ghost use Prim.Native.Nat.{_+_, _<_, _≤_};
 ghost use lib.ListN.{length, drop, set};
 ghost use Rattle.rules.specs.Limits.{maxVariable, maxClauses};
 ghost use Rattle.rules.specs.Text.{tokens};

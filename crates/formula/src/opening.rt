@@ -3,8 +3,8 @@
 // Each loop moves on by a byte with each turn, so the turns of a function here are the bytes that it passed.
 use text::Token;
 ghost use mathlib.Core.Path.{_≡_};
-ghost use Prim.Native.Nat.{ℕ, _+_, _<_, _≤_};
-ghost use lib.ListN.{length, drop, getD};
+ghost use Prim.Native.Nat.{_+_, _<_, _≤_};
+ghost use lib.ListN.{length, drop};
 ghost use Rattle.rules.specs.Tools.{bytes, only};
 ghost use Rattle.rules.specs.Limits.{maxClauses};
 ghost use Rattle.rules.specs.Formula.{afterPrefix, count, header};

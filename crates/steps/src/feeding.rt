@@ -48,38 +48,6 @@ pub enum Kept {
     Full,
 }
 
-fn narrow(x: u64) -> u32
-    requires { ⌜ x < 2 ^ 32 ⌝ }
-    ensures { λ r. ⌜ r ≡ x ⌝ }
-{
-    x as u32
-}
-
-// A number up to `limit` by its code, the 0 behind the last one, or neither.
-fn coded(t: Token, limit: u64) -> Item
-    requires { ⌜ limit < 2 ^ 31 ⌝ }
-    ensures { λ r. ⌜ r ≡ itemOf limit t ⌝ }
-{
-    match t {
-        Token::Nought => Item::End,
-        Token::Plus(v) => {
-            if limit < v {
-                return Item::Wrong;
-            }
-            Item::Literal(narrow(2 * v))
-        }
-        Token::Minus(v) => {
-            if limit < v {
-                return Item::Wrong;
-            }
-            Item::Literal(narrow(2 * v + 1))
-        }
-        Token::LetterD => Item::Wrong,
-        Token::Other => Item::Wrong,
-        Token::Nothing => Item::Wrong,
-    }
-}
-
 // The id that a token says, or 0 for none.
 fn id_within(t: Token) -> u64
     ensures { λ r. ⌜ r ≡ idWithin maxId t ⌝ }
@@ -105,7 +73,7 @@ fn id_item(t: Token) -> Item
 {
     match t {
         Token::Nought => Item::End,
-        Token::Plus(_) => coded(t, 268435455),
+        Token::Plus(_) => body::item_of(t, 268435455),
         Token::Minus(_) => Item::Wrong,
         Token::LetterD => Item::Wrong,
         Token::Other => Item::Wrong,
@@ -153,7 +121,7 @@ fn feed_start(t: Token, end: usize) -> Fed
 fn feed_literal(id: u64, end: usize, t: Token, cells: usize, lits: &mut [u32]) -> Fed
     ensures { λ r. ⌜ FedBy (itemOf maxVariable t) end cells (now (lits .entry)) (now (lits .exit)) (literalFed id end) r ⌝ }
 {
-    let x = coded(t, 16777215);
+    let x = body::item_of(t, 16777215);
     let kept = keep(x, end, cells, lits);
     match kept {
         Kept::Stored => Fed::More(Phase {
@@ -205,7 +173,7 @@ fn feed_body(id: u64, end: usize, t: Token, cells: usize, lits: &mut [u32]) -> F
 fn feed_hint(id: u64, end: usize, many: usize, t: Token, hints: &mut [u32]) -> Fed
     ensures { λ r. ⌜ FedBy (itemOf maxId t) many codes (now (hints .entry)) (now (hints .exit)) (hintFed id end many) r ⌝ }
 {
-    let x = coded(t, 268435455);
+    let x = body::item_of(t, 268435455);
     let kept = keep(x, many, 4294967296, hints);
     match kept {
         Kept::Stored => Fed::More(Phase {

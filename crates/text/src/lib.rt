@@ -6,9 +6,9 @@
 // Every loop here moves one byte on with each turn, so the turns are the bytes passed: `next - at`.
 ghost use mathlib.Core.Path.{_≡_};
 ghost use mathlib.Core.Bool.{false};
-ghost use Prim.Native.Nat.{ℕ, _+_, _*_, _<_, _≤_};
+ghost use Prim.Native.Nat.{_+_, _*_, _<_, _≤_};
 ghost use lib.ListN.{length, drop, getD};
-ghost use Rattle.rules.specs.Text.{isBlank, isDigit, word};
+ghost use Rattle.rules.specs.Text.{isBlank, word};
 ghost use Rattle.text.specs.Scan.{most, blanks, endsWord, Stops, Numbered, Ran, Positive, OneByte, Plain, Guessing, Wording, Scans, isOther};
 
 // A token. A number is given by its size, at most 10^18. `Nothing` is the end of the text.

@@ -7,8 +7,8 @@ use borrow.Author.Needs.{needs}
 use Rattle.steps.proofs.feeding.feed_literal.Statement.{statement}
 use Rattle.steps.proofs.feeding.feed_literal.Tie as tie
 
-coded-requires : tie.Need-coded-requires
-coded-requires c κs = search needs
+item-of-requires : tie.Need-item-of-requires
+item-of-requires c κs = search needs
 
 keep-requires : tie.Need-keep-requires
 keep-requires c κs = search needs
@@ -33,34 +33,34 @@ same-length c = search needs
 
 returns : tie.Need-returns
 unfolding literalFed
-returns c = fed-by _ _ _ _ _ _ _ _ (c .before .before .before .before .before .before .coded .ensures) (c .before .before .before .before .keep .ensures) (c .enum-told .given .1) _ _ refl
+returns c = fed-by _ _ _ _ _ _ _ _ (c .before .before .before .before .before .before .item-of .ensures) (c .before .before .before .before .keep .ensures) (c .enum-told .given .1) _ _ refl
 
 same-length-2 : tie.Need-same-length-2
 same-length-2 c = search needs
 
 returns-2 : tie.Need-returns-2
 unfolding literalFed
-returns-2 c = fed-by _ _ _ _ _ _ _ _ (c .before .before .before .before .before .before .coded .ensures) (c .before .before .before .before .keep .ensures) (c .enum-told2 .given .1) _ _ refl
+returns-2 c = fed-by _ _ _ _ _ _ _ _ (c .before .before .before .before .before .before .item-of .ensures) (c .before .before .before .before .keep .ensures) (c .enum-told2 .given .1) _ _ refl
 
 same-length-3 : tie.Need-same-length-3
 same-length-3 c = search needs
 
 returns-3 : tie.Need-returns-3
 unfolding literalFed
-returns-3 c = fed-by _ _ _ _ _ _ _ _ (c .before .before .before .before .before .before .coded .ensures) (c .before .before .before .before .keep .ensures) (c .enum-told3 .given .1) _ _ refl
+returns-3 c = fed-by _ _ _ _ _ _ _ _ (c .before .before .before .before .before .before .item-of .ensures) (c .before .before .before .before .keep .ensures) (c .enum-told3 .given .1) _ _ refl
 
 same-length-4 : tie.Need-same-length-4
 same-length-4 c = search needs
 
 returns-4 : tie.Need-returns-4
 unfolding literalFed
-returns-4 c = fed-by _ _ _ _ _ _ _ _ (c .before .before .before .before .before .before .coded .ensures) (c .before .before .before .before .keep .ensures) (c .enum-told4 .given .1) _ _ refl
+returns-4 c = fed-by _ _ _ _ _ _ _ _ (c .before .before .before .before .before .before .item-of .ensures) (c .before .before .before .before .keep .ensures) (c .enum-told4 .given .1) _ _ refl
 
 pub feed-literal-spec : {M : Type 1} → statement M
 feed-literal-spec =
     tie.close
     (tie.spec
-    coded-requires
+    item-of-requires
     keep-requires
     enum-told
     add-t12

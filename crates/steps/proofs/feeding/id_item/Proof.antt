@@ -10,8 +10,8 @@ enum-told c = search needs
 enum-told-2 : tie.Need-enum-told-2
 enum-told-2 c = search needs
 
-coded-requires : tie.Need-coded-requires
-coded-requires c κs = search needs
+item-of-requires : tie.Need-item-of-requires
+item-of-requires c κs = search needs
 
 enum-told-3 : tie.Need-enum-told-3
 enum-told-3 c = search needs
@@ -29,7 +29,7 @@ returns : tie.Need-returns
 returns c = search needs
 
 returns-2 : tie.Need-returns-2
-returns-2 c = id-plus _ _ _ _ (c .before .enum-told2 .given .1) (c .coded .ensures)
+returns-2 c = id-plus _ _ _ _ (c .before .enum-told2 .given .1) (c .item-of .ensures)
 
 returns-3 : tie.Need-returns-3
 returns-3 c = search needs
@@ -49,7 +49,7 @@ id-item-spec =
     (tie.spec
     enum-told
     enum-told-2
-    coded-requires
+    item-of-requires
     enum-told-3
     enum-told-4
     enum-told-5
