@@ -14,11 +14,11 @@ use Rattle.meaning.specs.Meaning.{Literal, Clause}
 use Rattle.meaning.proofs.Truth.{bool-cases}
 use Rattle.rules.specs.Judging.{Live, find, Trail, Look, allFalse, forces, neither, lookAt}
 use Rattle.rules.proofs.Options.{none-some, some-inj, option-cases}
-use Rattle.clauses.specs.Codes.{literalOf}
+use Rattle.clauses.specs.Codes.{literalOf, half}
 use Rattle.clauses.specs.Store.{idAt, startAt, clauseAt, entryAt, liveOf}
 use Rattle.clauses.proofs.Looking.{find-front, find-behind}
 use Rattle.clauses.proofs.Entries.{entry-live, entry-deleted, clause-is, live-suc, live-none, start-below}
-use Rattle.judge.specs.Hints.{Ready, mostHints, idOf, idsIn, cost}
+use Rattle.judge.specs.Hints.{Ready, mostHints, idsIn, cost}
 use Rattle.addition.specs.Verdicts.{costs, fewLiterals}
 
 module _ (m : ℕ) where
@@ -113,4 +113,4 @@ module _ (live : Live) (m : ℕ) (short : (id : ℕ) (c : Clause) → find id li
 
 pub ids-long : (hints : List ℕ) (from to : ℕ) → to ≤ length hints → length (idsIn hints from to) ≡ to - from
 unfolding idsIn
-ids-long hints from to h = length-map (slice from to hints) idOf ∙ length-slice from to hints h
+ids-long hints from to h = length-map (slice from to hints) half ∙ length-slice from to hints h

@@ -86,13 +86,6 @@ fn ends(v: Verdict) -> bool
     }
 }
 
-// The id that the number of a hint stands for.
-fn half(x: u32) -> u64
-    ensures { λ r. ⌜ (r ≡ x / 2) × (r < 2 ^ 60) ⌝ }
-{
-    (x / 2) as u64
-}
-
 // Takes the hints of clause `d`'s group.
 fn take_all(
     heads: &[u64],
@@ -230,7 +223,7 @@ fn judge_group(
     requires { ⌜ OneGroup (now hints) at next ⌝ }
     ensures { λ r. ⌜ JudgesGroup (liveOf (now (heads .entry)) (now (lits .entry)) n) (now (lits .entry)) (now (marks .entry)) (now (tape .entry)) t q (getD (now (hints .entry)) at 0 / 2) (idsIn (now (hints .entry)) (at + 1) next) (next - at) (now (marks .exit)) (now (tape .exit)) (r .verdict) (r .turns) ⌝ }
 {
-    let d = half(hints[at]);
+    let d = clauses::half(hints[at]);
     let from = at + 1;
     let passed = clauses::count(next - at);
     let found = clauses::lookup(heads, n, guess, d);

@@ -2,7 +2,7 @@
 // deleted clauses give their room back. specs/Store.antt says which live clauses two slices hold. Nothing is promised of
 // slices that hold no store; that what a function leaves is a store again is said by laws in proofs/, not by its contract.
 ghost use mathlib.Core.Path.{_≡_};
-ghost use Prim.Native.Nat.{_+_, _-_, _*_, _%_, _<_, _≤_, _^_};
+ghost use Prim.Native.Nat.{_+_, _-_, _*_, _/_, _%_, _<_, _≤_, _^_};
 ghost use lib.ListN.{length, set};
 ghost use Rattle.clauses.specs.Codes.{oppositeCode};
 ghost use Rattle.clauses.specs.Store.{idAt};
@@ -34,6 +34,13 @@ pub fn cell(x: u32) -> usize
     ensures { λ r. ⌜ r ≡ x ⌝ }
 {
     x as usize
+}
+
+// The id that a hint's or a deletion's code has.
+pub fn half(x: u32) -> u64
+    ensures { λ r. ⌜ (r ≡ x / 2) × (r < 2 ^ 60) ⌝ }
+{
+    (x / 2) as u64
 }
 
 // An index, as a number of a head.

@@ -15,13 +15,6 @@ pub enum Deleted {
     NotLive { id: u64, dead: usize, turns: u64 },
 }
 
-// The id that a code stands for.
-fn half(x: u32) -> u64
-    ensures { λ r. ⌜ (r ≡ x / 2) × (r < 2 ^ 60) ⌝ }
-{
-    x as u64 / 2
-}
-
 // Deletes the `k`-th clause, which is live, and adds the number of its literals to `dead`.
 fn remove(heads: &mut [u64], k: usize, dead: usize) -> usize
     requires { ⌜ Removable (now heads) k dead ⌝ }
@@ -76,7 +69,7 @@ pub fn delete_all(heads: &mut [u64], n: usize, guess: &[u32], ids: &[u32], many:
     let mut turns: u64 = 0;
     let mut i = 0;
     while i < many {
-        let r = delete_one(heads, n, guess, half(ids[i]), dead, turns);
+        let r = delete_one(heads, n, guess, clauses::half(ids[i]), dead, turns);
         match r {
             Deleted::Done {
                 dead: more,

@@ -69,13 +69,6 @@ pub fn next_group(hints: &[u32], from: usize) -> usize
     i
 }
 
-// The id that a code stands for.
-fn half(x: u32) -> u64
-    ensures { λ r. ⌜ r ≡ x / 2 ⌝ }
-{
-    x as u64 / 2
-}
-
 // Where the literals of the k-th clause begin.
 fn start(heads: &[u64], k: usize) -> usize
     requires { ⌜ 2 * k + 1 < length (now heads) ⌝ }
@@ -125,7 +118,7 @@ fn take_group(id: u64, hints: &[u32], at: usize, turns: u64) -> Passed
             turns: turns,
         };
     }
-    let d = half(hints[at]);
+    let d = clauses::half(hints[at]);
     if id != d {
         return Passed::Differs {
             id: smaller(id, d),
@@ -172,7 +165,7 @@ fn finish(hints: &[u32], at: usize, turns: u64) -> Matched
 {
     if at < hints.len() {
         return Matched::Differ {
-            id: half(hints[at]),
+            id: clauses::half(hints[at]),
             turns: turns,
         };
     }

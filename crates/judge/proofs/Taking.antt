@@ -11,12 +11,12 @@ use lib.Seq.{slice, slice-cons, slice-empty, length-slice}
 use Rattle.meaning.specs.Meaning.{Literal, Clause}
 use Rattle.rules.specs.Judging.{opposite, Live, find, hintNotLive, hintNotForced, Trail, allFalse, forces, neither, lookAt, conflict, badHint, takeHints}
 use Rattle.rules.proofs.Literals.{opposite-twice}
-use Rattle.clauses.specs.Codes.{literalOf, oppositeCode}
+use Rattle.clauses.specs.Codes.{literalOf, oppositeCode, half}
 use Rattle.clauses.specs.Store.{liveOf}
 use Rattle.clauses.proofs.Literals.{literal-opposite}
 use Rattle.assignment.specs.Marks.{Shows, Laid, Falsifies}
 use Rattle.assignment.proofs.Marking.{laid-none, laid-join, paired-opposite}
-use Rattle.judge.specs.Hints.{Ready, SeenForcing, HintCase, Hints, Forcible, ForceCase, ForcesOne, ForcedBy, EffectCase, TakesOne, idOf, idsIn, stopsAt, howBy, Span, cost, SaysCase, LeastCase, PassedCase, Takes}
+use Rattle.judge.specs.Hints.{Ready, SeenForcing, HintCase, Hints, Forcible, ForceCase, ForcesOne, ForcedBy, EffectCase, TakesOne, idsIn, stopsAt, howBy, Span, cost, SaysCase, LeastCase, PassedCase, Takes}
 use Rattle.judge.specs.declared.hints.Shown.{Shown}
 use Rattle.judge.specs.declared.hints.Shown.the-variants.{NotLive, AllFalse, Forces, Neither}
 use Rattle.judge.specs.declared.hints.Effect.{Effect}
@@ -176,17 +176,17 @@ how-at e e′ id q = sym (ap (λ (x : Effect). howBy x id) q)
 -- The ids of the hints that are left
 
 module _ (hints : List ℕ) (to : ℕ) (inside : to ≤ length hints) where
-  ids-cons : (i : ℕ) → i < to → idsIn hints i to ≡ idOf (getD hints i 0) ∷ idsIn hints (i + 1) to
+  ids-cons : (i : ℕ) → i < to → idsIn hints i to ≡ half (getD hints i 0) ∷ idsIn hints (i + 1) to
   unfolding idsIn
-  ids-cons i h = ap (map idOf) (slice-cons i to hints 0 h inside) ∙ rw (add-one i)
+  ids-cons i h = ap (map half) (slice-cons i to hints 0 h inside) ∙ rw (add-one i)
 
   ids-long : (i : ℕ) → length (idsIn hints i to) ≡ to - i
   unfolding idsIn
-  ids-long i = length-map (slice i to hints) idOf ∙ length-slice i to hints inside
+  ids-long i = length-map (slice i to hints) half ∙ length-slice i to hints inside
 
 ids-none : (hints : List ℕ) (to i : ℕ) → i ≡ to → idsIn hints i to ≡ []
 unfolding idsIn
-ids-none hints to i e = rw e (ap (map idOf) (slice-empty to hints))
+ids-none hints to i e = rw e (ap (map half) (slice-empty to hints))
 
 -- The state between two hints: under the assignment now, the hints that are left come to what all come to.
 pub record Left (live : Live) (n : ℕ) (hints : List ℕ) (from to : ℕ) (a : Trail) (marks : List ℕ) (i turns : ℕ) : Type 0 where
@@ -254,7 +254,7 @@ module _ (heads lits : List ℕ) (n : ℕ) (hints : List ℕ) (from to : ℕ) (m
             };
       }
 
-  module _ (more : i < to) (id : ℕ) (is-id : id ≡ idOf (getD hints i 0)) (marks′ tape′ : List ℕ) (effect : Effect) (t′ turns′ : ℕ)
+  module _ (more : i < to) (id : ℕ) (is-id : id ≡ half (getD hints i 0)) (marks′ tape′ : List ℕ) (effect : Effect) (t′ turns′ : ℕ)
       (one : TakesOne heads lits n marks tape t id marks′ tape′ effect t′ turns′) where
     ids : idsIn hints i to ≡ id ∷ idsIn hints (i + 1) to
     ids = rw is-id (ids-cons hints to (span .inside) i more)

@@ -1,5 +1,5 @@
 -- What taking hints comes to, in terms of document 01's rule 3 (rules' Judging).
-use Prim.Native.Nat.{ℕ, suc, _+_, _-_, _*_, _/_, _^_, _<_, _≤_}
+use Prim.Native.Nat.{ℕ, suc, _+_, _-_, _*_, _^_, _<_, _≤_}
 use mathlib.Core.Path.{_≡_}
 use mathlib.Core.Bool.{Bool, true, false}
 use mathlib.Core.List.{List, [], _∷_, map}
@@ -8,7 +8,7 @@ use lib.ListN.{length, getD}
 use lib.Seq.{slice}
 use Rattle.meaning.specs.Meaning.{Clause}
 use Rattle.rules.specs.Judging.{Live, find, hintNotLive, hintNotForced, Trail, Look, allFalse, forces, neither, lookAt, Taken, conflict, badHint, hintsEnd, takeHints}
-use Rattle.clauses.specs.Codes.{literalOf, oppositeCode}
+use Rattle.clauses.specs.Codes.{literalOf, oppositeCode, half}
 use Rattle.clauses.specs.Store.{startAt, liveOf, Store}
 use Rattle.clauses.specs.Finding.{AtMostHalvings}
 use Rattle.assignment.specs.Marks.{Shows, Paired, Marked, Laid}
@@ -151,12 +151,9 @@ pub record TakesOne (heads lits : List ℕ) (n : ℕ) (marks tape : List ℕ) (t
   pub laid : Laid marks tape t marks′ tape′ t′
   pub case : EffectCase (liveOf heads lits n) marks tape t id literals marks′ t′ effect
 
--- The id of a hint, and the ids of the hints from `from` up to `to`.
-abbrev pub idOf : ℕ → ℕ
-idOf x = x / 2
-
+-- The ids of the hints from `from` up to `to`.
 unfoldable pub idsIn : List ℕ → ℕ → ℕ → List ℕ
-idsIn hints from to = map idOf (slice from to hints)
+idsIn hints from to = map half (slice from to hints)
 
 -- No hint is taken behind one with this effect.
 abbrev pub stopsAt : Effect → Bool

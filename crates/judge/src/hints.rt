@@ -8,7 +8,7 @@ ghost use mathlib.Core.Path.{_≡_};
 ghost use Prim.Native.Nat.{_<_, _≤_, _^_};
 ghost use lib.ListN.{length};
 ghost use Rattle.clauses.specs.Store.{liveOf};
-ghost use Rattle.judge.specs.Hints.{Ready, shownOf, Lookable, LooksAt, Hints, Forcible, ForcesOne, TakesOne, idOf, idsIn, stopsAt, howBy, Span, Takes};
+ghost use Rattle.judge.specs.Hints.{Ready, shownOf, Lookable, LooksAt, Hints, Forcible, ForcesOne, TakesOne, idsIn, stopsAt, howBy, Span, Takes};
 
 // What a hint shows: its clause is not live; all its literals are false; all but one that has no value; or neither.
 pub enum Shown {
@@ -162,13 +162,6 @@ pub struct Taken {
     pub turns: u64,
 }
 
-// The id of a hint.
-fn id_of(x: u32) -> u64
-    ensures { λ r. ⌜ (r ≡ idOf x) × (r < 2 ^ 60) ⌝ }
-{
-    (x / 2) as u64
-}
-
 // No hint is taken behind one with this effect.
 fn stops(e: Effect) -> bool
     ensures { λ r. ⌜ r ≡ stopsAt e ⌝ }
@@ -217,7 +210,7 @@ pub fn take_hints(
     let mut at = t;
     let mut turns: u64 = 0;
     while i < to {
-        let id = id_of(hints[i]);
+        let id = clauses::half(hints[i]);
         let r = take_one(heads, n, guess, lits, marks, tape, at, id);
         turns += r.turns;
         at = r.t;

@@ -15,7 +15,7 @@ half-requires : tie.Need-half-requires
 half-requires c κs = search needs
 
 returns : tie.Need-returns
-returns c = finish-more _ _ (c .before .before .before .before .pre) (omega (arith, c .before .before .if1 .taken, c .before .before .before .before .pre .within)) _ _ (c .half .ensures)
+returns c = finish-more _ _ (c .before .before .before .before .pre) (omega (arith, c .before .before .if1 .taken, c .before .before .before .before .pre .within)) _ _ (c .half .ensures .0)
 
 returns-2 : tie.Need-returns-2
 returns-2 c = finish-none _ _ (c .before .before .pre) (c .if1 .left) _

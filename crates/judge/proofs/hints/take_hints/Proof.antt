@@ -18,21 +18,21 @@ abbrev μ-loop : tie.MeasureT-loop
 loop-holds : tie.Need-loop-holds Inv-loop μ-loop
 loop-holds c = taking-start _ _ _ _ _ _ _ _ (c .before .before .before .before .before .before .pre .1 .0) (c .before .before .before .before .before .before .pre .1 .1)
 
-mul-id-of : tie.Need-mul-id-of Inv-loop μ-loop
-mul-id-of c = search needs
+mul-half : tie.Need-mul-half Inv-loop μ-loop
+mul-half c = search needs
 
-shared-slice-read-id-of : tie.Need-shared-slice-read-id-of Inv-loop μ-loop
-shared-slice-read-id-of c = search needs
+shared-slice-read-half : tie.Need-shared-slice-read-half Inv-loop μ-loop
+shared-slice-read-half c = search needs
 
-id-of-requires : tie.Need-id-of-requires Inv-loop μ-loop
-id-of-requires c κs = search needs
+half-requires : tie.Need-half-requires Inv-loop μ-loop
+half-requires c κs = search needs
 
 take-one-requires : tie.Need-take-one-requires Inv-loop μ-loop
-take-one-requires c κs = (taking-ready _ _ _ _ _ _ _ _ _ _ _ _ _ _ (c .before .before .before .before .before .loop .inv) (c .before .before .before .before .before .before .before .before .before .before .before .before .pre .0) (c .before .before .before .before .before .before .before .before .before .before .before .before .pre .1 .1), (c .before .before .before .before .before .loop .inv .laid .room, c .before .before .id-of .ensures .1))
+take-one-requires c κs = (taking-ready _ _ _ _ _ _ _ _ _ _ _ _ _ _ (c .before .before .before .before .before .loop .inv) (c .before .before .before .before .before .before .before .before .before .before .before .before .pre .0) (c .before .before .before .before .before .before .before .before .before .before .before .before .pre .1 .1), (c .before .before .before .before .before .loop .inv .laid .room, c .before .before .half .ensures .1))
 
 add-turns : tie.Need-add-turns Inv-loop μ-loop
 add-turns c =
-    let few = taking-turns _ _ _ _ _ _ _ _ _ _ _ _ _ _ (c .before .before .before .before .before .before .before .before .before .before .before .loop .inv) (c .before .before .before .before .before .before .before .before .before .before .before .before .before .before .before .before .before .before .pre .0) (c .before .before .before .before .before .before .before .before .before .before .before .before .before .before .before .before .before .before .pre .1 .1) (c .before .before .before .before .before .before .before .before .before .before .loop-test .taken) _ (c .before .before .before .before .before .before .before .before .id-of .ensures .0) _ _ _ _ _ (c .before .before .before .before .before .take-one .ensures) in
+    let few = taking-turns _ _ _ _ _ _ _ _ _ _ _ _ _ _ (c .before .before .before .before .before .before .before .before .before .before .before .loop .inv) (c .before .before .before .before .before .before .before .before .before .before .before .before .before .before .before .before .before .before .pre .0) (c .before .before .before .before .before .before .before .before .before .before .before .before .before .before .before .before .before .before .pre .1 .1) (c .before .before .before .before .before .before .before .before .before .before .loop-test .taken) _ (c .before .before .before .before .before .before .before .before .half .ensures .0) _ _ _ _ _ (c .before .before .before .before .before .take-one .ensures) in
     omega (arith, few)
 
 stops-requires : tie.Need-stops-requires Inv-loop μ-loop
@@ -48,7 +48,7 @@ same-length-2 : tie.Need-same-length-2 Inv-loop μ-loop
 same-length-2 c = c .before .before .before .before .before .before .before .before .take-one .ensures .laid .long ∙ c .before .before .before .before .before .before .before .before .before .before .before .before .before .before .loop .inv .laid .long
 
 returns : tie.Need-returns Inv-loop μ-loop
-returns c = taking-stop _ _ _ _ _ _ _ _ _ _ _ _ _ _ (c .before .before .before .before .before .before .before .before .before .before .before .before .before .before .loop .inv) (c .before .before .before .before .before .before .before .before .before .before .before .before .before .before .before .before .before .before .before .before .before .pre .0) (c .before .before .before .before .before .before .before .before .before .before .before .before .before .before .before .before .before .before .before .before .before .pre .1 .1) (c .before .before .before .before .before .before .before .before .before .before .before .before .before .loop-test .taken) _ (c .before .before .before .before .before .before .before .before .before .before .before .id-of .ensures .0) _ _ _ _ _ (c .before .before .before .before .before .before .before .before .take-one .ensures) _ (c .before .before .stops .ensures) (c .before .if1 .taken) _ (c .how-by .ensures)
+returns c = taking-stop _ _ _ _ _ _ _ _ _ _ _ _ _ _ (c .before .before .before .before .before .before .before .before .before .before .before .before .before .before .loop .inv) (c .before .before .before .before .before .before .before .before .before .before .before .before .before .before .before .before .before .before .before .before .before .pre .0) (c .before .before .before .before .before .before .before .before .before .before .before .before .before .before .before .before .before .before .before .before .before .pre .1 .1) (c .before .before .before .before .before .before .before .before .before .before .before .before .before .loop-test .taken) _ (c .before .before .before .before .before .before .before .before .before .before .before .half .ensures .0) _ _ _ _ _ (c .before .before .before .before .before .before .before .before .take-one .ensures) _ (c .before .before .stops .ensures) (c .before .if1 .taken) _ (c .how-by .ensures)
 
 add-i : tie.Need-add-i Inv-loop μ-loop
 add-i c = search needs
@@ -57,7 +57,7 @@ loop-less : tie.Need-loop-less Inv-loop μ-loop
 loop-less c = omega (arith, c .before .before .before .before .before .before .before .before .before .before .before .before .loop-test .taken)
 
 loop-again : tie.Need-loop-again Inv-loop μ-loop
-loop-again c = taking-on _ _ _ _ _ _ _ _ _ _ _ _ _ _ (c .before .before .before .before .before .before .before .before .before .before .before .before .before .loop .inv) (c .before .before .before .before .before .before .before .before .before .before .before .before .before .before .before .before .before .before .before .before .pre .0) (c .before .before .before .before .before .before .before .before .before .before .before .before .before .before .before .before .before .before .before .before .pre .1 .1) (c .before .before .before .before .before .before .before .before .before .before .before .before .loop-test .taken) _ (c .before .before .before .before .before .before .before .before .before .before .id-of .ensures .0) _ _ _ _ _ (c .before .before .before .before .before .before .before .take-one .ensures) _ (c .before .stops .ensures) (c .if1 .left)
+loop-again c = taking-on _ _ _ _ _ _ _ _ _ _ _ _ _ _ (c .before .before .before .before .before .before .before .before .before .before .before .before .before .loop .inv) (c .before .before .before .before .before .before .before .before .before .before .before .before .before .before .before .before .before .before .before .before .pre .0) (c .before .before .before .before .before .before .before .before .before .before .before .before .before .before .before .before .before .before .before .before .pre .1 .1) (c .before .before .before .before .before .before .before .before .before .before .before .before .loop-test .taken) _ (c .before .before .before .before .before .before .before .before .before .before .half .ensures .0) _ _ _ _ _ (c .before .before .before .before .before .before .before .take-one .ensures) _ (c .before .stops .ensures) (c .if1 .left)
 
 same-length-3 : tie.Need-same-length-3 Inv-loop μ-loop
 same-length-3 c = c .before .loop .inv .laid .differ .long
@@ -75,9 +75,9 @@ take-hints-spec =
     Inv-loop
     μ-loop
     loop-holds
-    mul-id-of
-    shared-slice-read-id-of
-    id-of-requires
+    mul-half
+    shared-slice-read-half
+    half-requires
     take-one-requires
     add-turns
     stops-requires
