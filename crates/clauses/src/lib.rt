@@ -5,6 +5,7 @@ ghost use mathlib.Core.Path.{_≡_};
 ghost use Prim.Native.Nat.{_+_, _-_, _*_, _/_, _%_, _<_, _≤_, _^_};
 ghost use lib.ListN.{length, set};
 ghost use Rattle.clauses.specs.Codes.{oppositeCode};
+ghost use Rattle.clauses.specs.Counting.{Counts};
 ghost use Rattle.clauses.specs.Store.{idAt};
 ghost use Rattle.clauses.specs.Finding.{Searchable, FoundIn, turnsOf, Halvings, AtMostHalvings, reachedBy};
 ghost use Rattle.clauses.specs.Moving.{Stored, Moved, Movable, OneMoved, AllMoved};
@@ -48,6 +49,17 @@ pub fn count(x: usize) -> u64
     ensures { λ r. ⌜ r ≡ x ⌝ }
 {
     x as u64
+}
+
+// Turns and more turns, up to the greatest count.
+pub fn plus(turns: u64, more: u64) -> u64
+    ensures { λ r. ⌜ Counts turns more r ⌝ }
+{
+    let room = 18446744073709551615 - turns;
+    if room < more {
+        return 18446744073709551615;
+    }
+    turns + more
 }
 
 // The opposite of a literal.
