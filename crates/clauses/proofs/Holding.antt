@@ -79,15 +79,15 @@ module _ (heads lits : List ℕ) (n used last : ℕ) (live : Live) (h : Holds he
     same = h .same;
   }
 
-  -- Literals from `used` on may change.
-  pub holds-literals : (lits′ : List ℕ) → take used lits′ ≡ take used lits → length lits′ ≡ length lits → Holds heads lits′ n used last live
-  holds-literals lits′ s long = record {
+  -- Literals from `used` on may change, or there may be more or fewer of them.
+  pub holds-front : (lits′ : List ℕ) → take used lits′ ≡ take used lits → used ≤ length lits′ → Holds heads lits′ n used last live
+  holds-front lits′ s long = record {
     store = record {
       room = h .store .room;
       begins = h .store .begins;
       ordered = h .store .ordered;
       ends = h .store .ends;
-      fits = rw long (h .store .fits);
+      fits = long;
       rising = h .store .rising;
       below = h .store .below;
     };
@@ -99,6 +99,9 @@ module _ (heads lits : List ℕ) (n used last : ℕ) (live : Live) (h : Holds he
           clause-is heads lits′ k (startAt heads k) (startAt heads (k + 1)) refl refl
           ∙ (ap (map literalOf) (slice-same lits lits′ (startAt heads k) (startAt heads (k + 1)) used (start-below heads lits n used last (h .store) (k + 1) (omega arith)) s)
           ∙ sym (clause-is heads lits k (startAt heads k) (startAt heads (k + 1)) refl refl))
+
+  pub holds-literals : (lits′ : List ℕ) → take used lits′ ≡ take used lits → length lits′ ≡ length lits → Holds heads lits′ n used last live
+  holds-literals lits′ s long = holds-front lits′ s (rw long (h .store .fits))
 
 -- One clause more, whose head is even, greater than all others and at most twice the last id.
 module _ (heads lits : List ℕ) (n used last : ℕ) (live : Live) (h : Holds heads lits n used last live) (head end : ℕ)

@@ -1,6 +1,6 @@
 -- The run over a proof's steps: a step takes tokens, so the fuel does not matter; an unreadable step is found before it is
 -- judged; and every state that a run comes to is orderly. Assumes nothing.
-use Prim.Native.Nat.{ℕ, zero, suc, _+_, _<_}
+use Prim.Native.Nat.{ℕ, zero, suc, _+_, _<_, _≤_}
 use mathlib.Core.Path.{_≡_, refl}
 use mathlib.Core.List.{List, [], _∷_}
 use mathlib.Core.Option.{Option, none, some}
@@ -13,8 +13,8 @@ use Rattle.rules.specs.Limits.{maxVariable}
 use Rattle.rules.specs.Text.{Token, isNought, isLetterD, literal}
 use Rattle.rules.specs.Formula.{items}
 use Rattle.rules.specs.Steps.{Step, add, delete, clauseId, hint, stepBody, readStep}
-use Rattle.rules.specs.Judging.{State, Judged, refused, addsEmpty, goesOn, judge}
-use Rattle.rules.specs.Answers.{endsUnreadableStep, run, start}
+use Rattle.rules.specs.Judging.{Ground, State, Judged, refused, addsEmpty, goesOn, judge}
+use Rattle.rules.specs.Answers.{endsVerified, endsUnreadableStep, endsRefused, endsUnfinished, run, start}
 use Rattle.rules.proofs.Options.{none-some, bound}
 use Rattle.rules.proofs.Ids.{Orderly, OrderlyJudged, start-orderly, judge-orderly}
 
@@ -94,6 +94,35 @@ run-fuel (suc f) (suc g) k s (t ∷ ts) h i = go (run-fuel f g) (readStep (t ∷
 pub unreadable-first : (fuel k : ℕ) (s : State) (t : Token) (ts : List Token) → readStep (t ∷ ts) ≡ none → run (suc fuel) k s (t ∷ ts) ≡ endsUnreadableStep (suc k)
 unfolding run
 unreadable-first fuel k s t ts e = rw (e, run)
+
+-- What a run comes to, by its next step. The fuel is what `checked` starts with, one more than there are tokens.
+
+pub run-end : (k : ℕ) (s : State) (ts : List Token) → ts ≡ [] → run (suc (length ts)) k s ts ≡ endsUnfinished k
+unfolding run
+run-end k s ts e = rw e
+
+pub run-unreadable : (k : ℕ) (s : State) (ts : List Token) → readStep ts ≡ none → 1 ≤ length ts → run (suc (length ts)) k s ts ≡ endsUnreadableStep (suc k)
+run-unreadable k s [] e h = absurd (omega arith)
+run-unreadable k s (t ∷ ts) e h = unreadable-first (suc (length ts)) k s t ts e
+
+pub run-refused : (k : ℕ) (s : State) (ts : List Token) (r : Step × List Token) (g : Ground)
+    → readStep ts ≡ some r → judge s (r .0) ≡ refused g → run (suc (length ts)) k s ts ≡ endsRefused (suc k) g
+unfolding run
+run-refused k s [] r g e j = none-some e
+run-refused k s (t ∷ ts) r g e j = rw (e, run, j)
+
+pub run-verified : (k : ℕ) (s : State) (ts : List Token) (r : Step × List Token)
+    → readStep ts ≡ some r → judge s (r .0) ≡ addsEmpty → run (suc (length ts)) k s ts ≡ endsVerified (suc k)
+unfolding run
+run-verified k s [] r e j = none-some e
+run-verified k s (t ∷ ts) r e j = rw (e, run, j)
+
+pub run-on : (k : ℕ) (s s′ : State) (ts : List Token) (r : Step × List Token)
+    → readStep ts ≡ some r → judge s (r .0) ≡ goesOn s′ → run (suc (length ts)) k s ts ≡ run (suc (length (r .1))) (suc k) s′ (r .1)
+unfolding run
+run-on k s s′ [] r e j = none-some e
+run-on k s s′ (t ∷ ts) r e j =
+    rw (e, run, j) (run-fuel (suc (length ts)) (suc (length (r .1))) (suc k) s′ (r .1) (omega (arith, step-shorter (t ∷ ts) r e)) (omega arith))
 
 -- The states that a run from a formula comes to: the start, and what a step goes on to.
 pub data Reached (F : Formula) : State → Type 0 where
