@@ -116,6 +116,7 @@ pub record Compacting (heads₀ lits₀ : List ℕ) (n : ℕ) (heads lits : List
   pub heads-rest : (i : ℕ) → 2 * k ≤ i → getD heads i 0 ≡ getD heads₀ i 0
   pub lits-rest : (i : ℕ) → startAt heads₀ k ≤ i → getD lits i 0 ≡ getD lits₀ i 0
   pub all-live : (i : ℕ) → i < m → idAt heads i % 2 ≡ 0
+  pub bounds : (b : ℕ) → ((i : ℕ) → i < startAt heads₀ k → getD lits₀ i 0 < b) → (i : ℕ) → i < w → getD lits i 0 < b
   pub larger : (i j : ℕ) → i < m → k ≤ j → j < n → idAt heads i / 2 < idAt heads₀ j / 2
   pub holds : (used last : ℕ) → Store heads₀ lits₀ n used last → Holds heads lits m w last (liveOf heads₀ lits₀ k)
 
@@ -132,6 +133,7 @@ compacting-start heads lits n used last s = record {
   heads-rest = λ i h. refl;
   lits-rest = λ i h. refl;
   all-live = λ i h. absurd (omega arith);
+  bounds = λ b f i h. absurd (omega arith);
   larger = λ i j h l m. absurd (omega arith);
   holds = λ used last t. rw (live-none heads lits) (holds-empty heads lits last (omega (arith, t .room)) (t .begins));
 }
@@ -177,6 +179,7 @@ module _ (heads₀ lits₀ : List ℕ) (n used₀ last₀ : ℕ) (s : Store head
     heads-rest = λ i h. c .heads-rest i (omega arith);
     lits-rest = λ i h. c .lits-rest i (omega (arith, forward));
     all-live = c .all-live;
+    bounds = λ b f. c .bounds b (λ i h. f i (omega (arith, forward)));
     larger = λ i j h l b. c .larger i j h (omega arith) b;
     holds = λ used last t. rw same (c .holds used last t);
   }
@@ -269,6 +272,17 @@ module _ (heads₀ lits₀ : List ℕ) (n used₀ last₀ : ℕ) (s : Store head
         (omega arith)
         (omega (arith, fits-there, moved .long)))
 
+    bounds-on : (b : ℕ) → ((i : ℕ) → i < startAt heads₀ (k + 1) → getD lits₀ i 0 < b) → (i : ℕ) → i < w + size → getD lits′ i 0 < b
+    bounds-on b f i h = ⊎-elim (λ lt. rw (moved .front i lt) (c .bounds b (λ j g. f j (omega (arith, forward))) i lt)) (λ ge. new (i - w) (omega arith)) (cut i w)
+      where
+        new : (j : ℕ) → i ≡ w + j → getD lits′ i 0 < b
+        new j e =
+            let here : getD lits′ i 0 ≡ getD lits₀ (startAt heads₀ k + j) 0 =
+                ap (λ (x : ℕ). getD lits′ x 0) e
+                ∙ (moved .moved j (omega (arith, size-is, start-there, end-there))
+                ∙ (ap (λ (x : ℕ). getD lits (x + j) 0) start-there ∙ c .lits-rest (startAt heads₀ k + j) (omega arith))) in
+            rw here (f (startAt heads₀ k + j) (omega (arith, size-is)))
+
     pub compacting-keep : Compacting heads₀ lits₀ n (set (set heads (2 * m) (idAt heads k)) (2 * m + 3) (w + (startAt heads (k + 1) - startAt heads k))) lits′ (k + 1) (m + 1) (w + (startAt heads (k + 1) - startAt heads k)) (moves + (startAt heads (k + 1) - startAt heads k)) (turns + 1)
     unfolding after size written
     compacting-keep = record {
@@ -283,6 +297,7 @@ module _ (heads₀ lits₀ : List ℕ) (n used₀ last₀ : ℕ) (s : Store head
       heads-rest = rest-number;
       lits-rest = λ i h. moved .behind i (rw end-there h) ∙ c .lits-rest i (omega (arith, forward));
       all-live = stay-live;
+      bounds = bounds-on;
       larger = larger-more;
       holds = holds-on;
     }
@@ -331,6 +346,9 @@ pub compacting-end : (heads₀ lits₀ : List ℕ) (n : ℕ) (heads lits : List 
 compacting-end heads₀ lits₀ n heads lits k m w moves turns c h = record {
   holds = λ used last live t. rw (sym (t .same), sym all) (c .holds used last (t .store));
   all-live = c .all-live;
+  fewer = omega (arith, c .kept, c .within);
+  shorter = rw all at (c .down);
+  below = λ b f. c .bounds b (λ i h. f i (rw all at h));
   counted = omega (arith, c .moves-counted, c .turns-counted);
   heads-long = c .heads-long;
   lits-long = c .lits-long;

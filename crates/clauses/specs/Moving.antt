@@ -54,11 +54,15 @@ OneMoved heads lits k d heads′ lits′ r =
     Kept heads lits k (d .n) (d .used) (d .turns) heads′ lits′ (r .n) (r .used) (r .turns)
     ⊎ Dropped heads lits k (d .n) (d .used) (d .turns) heads′ lits′ (r .n) (r .used) (r .turns)
 
--- Whatever live clauses the lists held, they hold them still, and no deleted one; and the turns are one for each clause that
--- was there, live or deleted, and one for each literal that is there still.
+-- Whatever live clauses the lists held, they hold them still, and no deleted one; the turns are one for each clause that
+-- was there, live or deleted, and one for each literal that is there still; there are no more of either than before, and a
+-- bound of the literals is one still.
 pub record AllMoved (heads lits : List ℕ) (n : ℕ) (heads′ lits′ : List ℕ) (r : Compacted) : Type 0 where
   pub holds : (used last : ℕ) (live : Live) → Holds heads lits n used last live → Holds heads′ lits′ (r .n) (r .used) last live
   pub all-live : (k : ℕ) → k < r .n → idAt heads′ k % 2 ≡ 0
   pub counted : r .turns ≡ n + r .used
+  pub fewer : r .n ≤ n
+  pub shorter : r .used ≤ startAt heads n
+  pub below : (m : ℕ) → ((i : ℕ) → i < startAt heads n → getD lits i 0 < m) → (i : ℕ) → i < r .used → getD lits′ i 0 < m
   pub heads-long : length heads′ ≡ length heads
   pub lits-long : length lits′ ≡ length lits
