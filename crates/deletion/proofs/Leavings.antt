@@ -1,4 +1,4 @@
--- How many literals the deleted clauses have, before and after one more is deleted. Assumes nothing.
+-- What the deleted clauses take, before and after one more is added or deleted. Assumes nothing.
 use Prim.Native.Nat.{ℕ, zero, suc, _+_, _-_, _*_, _%_, _<_, _≤_}
 use mathlib.Core.Path.{_≡_, refl, sym, ap, _∙_}
 use mathlib.Core.Logic.{⊎-elim}
@@ -17,11 +17,11 @@ use Rattle.deletion.specs.Deleting.{deadAt, deadOf}
 
 -- One clause.
 
-dead-live : (heads : List ℕ) (k : ℕ) → idAt heads k % 2 ≡ 0 → deadAt heads k ≡ 0
+pub dead-live : (heads : List ℕ) (k : ℕ) → idAt heads k % 2 ≡ 0 → deadAt heads k ≡ 0
 unfolding deadAt
 dead-live heads k e = rw (eq-eqb (idAt heads k % 2) 0 e, deadAt)
 
-dead-deleted : (heads : List ℕ) (k : ℕ) → (idAt heads k % 2 ≡ 0 → ⊥) → deadAt heads k ≡ startAt heads (k + 1) - startAt heads k
+pub dead-deleted : (heads : List ℕ) (k : ℕ) → (idAt heads k % 2 ≡ 0 → ⊥) → deadAt heads k ≡ startAt heads (k + 1) - startAt heads k + 1
 unfolding deadAt
 dead-deleted heads k d = rw (ne-eqb (idAt heads k % 2) 0 d, deadAt)
 
@@ -34,32 +34,32 @@ dead-at-same heads heads′ k i s e =
     let d = eqb-false (idAt heads k % 2) 0 n in
     dead-deleted heads′ k (λ q. d (sym (ap (λ (x : ℕ). x % 2) i) ∙ q)) ∙ (rw (s, e) (sym (dead-deleted heads k d))))
 
-dead-at-most : (heads : List ℕ) (k : ℕ) → deadAt heads k ≤ startAt heads (k + 1) - startAt heads k
+dead-at-most : (heads : List ℕ) (k : ℕ) → deadAt heads k ≤ startAt heads (k + 1) - startAt heads k + 1
 dead-at-most heads k =
     bool-cases (eqb (idAt heads k % 2) 0)
     (λ y. rw (dead-live heads k (eqb-true (idAt heads k % 2) 0 y)) (omega arith))
     (λ n. rw (dead-deleted heads k (eqb-false (idAt heads k % 2) 0 n)) (omega arith))
 
-dead-suc : (heads : List ℕ) (n : ℕ) → deadOf heads (suc n) ≡ deadOf heads n + deadAt heads n
+pub dead-suc : (heads : List ℕ) (n : ℕ) → deadOf heads (suc n) ≡ deadOf heads n + deadAt heads n
 unfolding deadOf
 dead-suc heads n = refl
 
-dead-none : (heads : List ℕ) → deadOf heads 0 ≡ 0
+pub dead-none : (heads : List ℕ) → deadOf heads 0 ≡ 0
 unfolding deadOf
 dead-none heads = refl
 
--- There are no more than there are literals.
-pub dead-below : (heads : List ℕ) (n : ℕ) → ((k : ℕ) → k < n → startAt heads k ≤ startAt heads (k + 1)) → deadOf heads n ≤ startAt heads n
+-- That is no more than there are literals and clauses.
+pub dead-below : (heads : List ℕ) (n : ℕ) → ((k : ℕ) → k < n → startAt heads k ≤ startAt heads (k + 1)) → deadOf heads n ≤ startAt heads n + n
 dead-below heads zero o = rw (dead-none heads) (omega arith)
 dead-below heads (suc n) o =
     let z : n + 1 ≡ suc n = add-one n in
     rw (dead-suc heads n, ← z) (omega (arith, dead-at-most heads n, o n (omega arith), dead-below heads n (λ k h. o k (omega arith))))
 
--- Where all clauses are live, as behind a compaction, there are none.
-pub dead-all-live : (heads : List ℕ) (n : ℕ) → ((k : ℕ) → k < n → idAt heads k % 2 ≡ 0) → deadOf heads n ≡ 0
-dead-all-live heads zero l = dead-none heads
-dead-all-live heads (suc n) l =
-    omega (arith, dead-suc heads n, dead-live heads n (l n (omega arith)), dead-all-live heads n (λ k h. l k (omega arith)))
+-- Where all clauses are live, as behind a compaction, it is nothing.
+pub none-dead : (heads : List ℕ) (n : ℕ) → ((k : ℕ) → k < n → idAt heads k % 2 ≡ 0) → deadOf heads n ≡ 0
+none-dead heads zero l = dead-none heads
+none-dead heads (suc n) l =
+    omega (arith, dead-suc heads n, dead-live heads n (l n (omega arith)), none-dead heads n (λ k h. l k (omega arith)))
 
 -- The same numbers are the same leavings.
 dead-same : (heads heads′ : List ℕ) (n : ℕ) → ((k : ℕ) → k < n → deadAt heads′ k ≡ deadAt heads k) → deadOf heads′ n ≡ deadOf heads n
@@ -94,7 +94,7 @@ module _ (heads : List ℕ) (k : ℕ) (room : 2 * k < length heads) (is-live : i
   pub same-start : (j : ℕ) → startAt without j ≡ startAt heads j
   same-start j = kept (2 * j + 1) (λ e. omega arith)
 
-  now-dead : deadAt without k ≡ startAt heads (k + 1) - startAt heads k
+  now-dead : deadAt without k ≡ startAt heads (k + 1) - startAt heads k + 1
   now-dead =
       let odd : idAt without k ≡ idAt heads k + 1 = getD-set-same heads (2 * k) (idAt heads k + 1) 0 room in
       dead-deleted without k (λ e. omega arith) ∙ rw (same-start k, same-start (k + 1))
@@ -102,14 +102,14 @@ module _ (heads : List ℕ) (k : ℕ) (room : 2 * k < length heads) (is-live : i
   other : (j : ℕ) → (j ≡ k → ⊥) → deadAt without j ≡ deadAt heads j
   other j d = dead-at-same heads without j (kept (2 * j) (λ e. d (omega arith))) (same-start j) (same-start (j + 1))
 
-  pub dead-more : (n : ℕ) → k < n → deadOf without n ≡ deadOf heads n + (startAt heads (k + 1) - startAt heads k)
+  pub dead-more : (n : ℕ) → k < n → deadOf without n ≡ deadOf heads n + (startAt heads (k + 1) - startAt heads k + 1)
   dead-more zero h = absurd (omega arith)
   dead-more (suc n) h =
       ⊎-elim
       (λ lt. omega (arith, dead-suc without n, dead-suc heads n, dead-more n lt, other n (λ e. omega arith)))
       (λ ge.
       let z : k ≡ n = omega arith in
-      let here : deadAt without n ≡ startAt heads (k + 1) - startAt heads k = ap (deadAt without) (sym z) ∙ now-dead in
+      let here : deadAt without n ≡ startAt heads (k + 1) - startAt heads k + 1 = ap (deadAt without) (sym z) ∙ now-dead in
       let was : deadAt heads n ≡ 0 = dead-live heads n (rw (← z) is-live) in
       omega (arith, dead-suc without n, dead-suc heads n, dead-same heads without n (λ j l. other j (λ e. omega arith)), here, was))
       (cut k n)

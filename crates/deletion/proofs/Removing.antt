@@ -12,20 +12,22 @@ use lib.Seq.{drop-cons, getD-take, length-take-le}
 use Rattle.meaning.specs.Meaning.{Clause}
 use Rattle.rules.specs.Judging.{Live, State, refused, goesOn, deletionNotLive, find, remove, judgeDeletion}
 use Rattle.clauses.specs.Codes.{half}
+use Rattle.clauses.specs.Counting.{full, Reaches, Counts}
 use Rattle.clauses.specs.Store.{idAt, startAt, liveOf, clauseAt, Store, Holds}
 use Rattle.clauses.specs.Finding.{Searchable, FoundIn, AtMostHalvings, turnsOf}
 use Rattle.clauses.specs.declared.Found.{Found}
 use Rattle.clauses.specs.declared.Found.the-variants.{At, Nowhere}
 use Rattle.clauses.proofs.Numbers.{cut}
+use Rattle.clauses.proofs.Counting.{reaches-less}
 use Rattle.clauses.proofs.Holding.{store-searchable, holds-found, holds-lacks, holds-delete}
-use Rattle.deletion.specs.Deleting.{Headed, deadOf, Removable, Deletable, Gone, Missing, OneCase, DeletesOne, Counted, stateOf, AllGone, OneMissing}
+use Rattle.deletion.specs.Deleting.{Headed, deadOf, Removable, Deletable, OneTaken, Gone, Missing, OneCase, DeletesOne, Counted, stateOf, AllGone, OneMissing}
 use Rattle.deletion.specs.declared.Deleted.{Deleted}
 use Rattle.deletion.specs.declared.Deleted.the-variants.{Done, NotLive}
 use Rattle.deletion.proofs.Leavings.{dead-below, dead-more, same-start}
 
 -- The heads of a store are such heads.
-pub store-headed : (heads lits : List ℕ) (n used last : ℕ) → Store heads lits n used last → Headed heads n
-store-headed heads lits n used last s = record { lits = lits; used = used; last = last; store = s }
+pub store-headed : (heads lits : List ℕ) (n used last : ℕ) → Store heads lits n used last → used < 2 ^ 63 → Headed heads n
+store-headed heads lits n used last s h = record { lits = lits; used = used; last = last; store = s; small = h }
 
 -- They stay so when a clause is deleted.
 headed-on : (heads : List ℕ) (n : ℕ) → Headed heads n → (k id : ℕ) → k < n → idAt heads k ≡ 2 * id → Headed (set heads (2 * k) (idAt heads k + 1)) n
@@ -33,6 +35,7 @@ headed-on heads n h k id l e =
     let held : Holds heads (h .lits) n (h .used) (h .last) (liveOf heads (h .lits) n) = record { store = h .store; same = refl } in
     store-headed (set heads (2 * k) (idAt heads k + 1)) (h .lits) n (h .used) (h .last)
     (holds-delete heads (h .lits) n (h .used) (h .last) (liveOf heads (h .lits) n) held k id l e .store)
+    (h .small)
 
 -- A number below 2 ^ 63 is halved at most 63 times.
 pub few-halvings : (n turns : ℕ) → AtMostHalvings n turns → 2 * n < 2 ^ 64 → turns ≤ 63
@@ -42,16 +45,27 @@ few-halvings n turns h l =
     (λ none. omega arith)
     h
 
+-- One id has its own turn and those of its lookup.
+one-taken : (turns spent turns′ : ℕ) → spent ≤ 63 → Counts turns (1 + spent) turns′ → OneTaken turns turns′
+one-taken turns spent turns′ h c = record {
+  at-least = reaches-less (turns + 1) (turns + (1 + spent)) turns′ turns′ (omega arith) (omega arith) (c .at-least);
+  at-most = omega (arith, c .at-most);
+}
+
+-- A count of ids that is below the greatest count goes up with each.
+one-more : (i turns turns′ : ℕ) → i < full → i ≤ turns → Reaches (turns + 1) turns′ → i + 1 ≤ turns′
+one-more i turns turns′ few h r = ⊎-elim (λ l. omega (arith, h, l)) (λ l. omega (arith, few, l)) (r .case)
+
 -- One clause.
-module _ (heads : List ℕ) (n id dead turns : ℕ) (o : Deletable heads n id dead turns) where
+module _ (heads : List ℕ) (n id dead : ℕ) (o : Deletable heads n id dead) where
   pub one-searchable : Searchable heads n id
   one-searchable = store-searchable heads (o .headed .lits) n (o .headed .used) (o .headed .last) (o .headed .store) id (o .small)
 
   spent-few : (spent : ℕ) → length heads < 2 ^ 64 → AtMostHalvings n spent → spent ≤ 63
   spent-few spent fits h = few-halvings n spent h (omega (arith, o .headed .store .room))
 
-  removable : (place : ℕ) → place < n → idAt heads place ≡ 2 * id → Removable heads place dead
-  removable place within is-id =
+  removable : (place : ℕ) → length heads < 2 ^ 64 → place < n → idAt heads place ≡ 2 * id → Removable heads place dead
+  removable place long within is-id =
       let store = o .headed .store in
       let room : 2 * place < length heads = omega (arith, store .room) in
       let is-live : idAt heads place % 2 ≡ 0 = omega arith in
@@ -62,8 +76,7 @@ module _ (heads : List ℕ) (n id dead turns : ℕ) (o : Deletable heads n id de
         room = omega (arith, store .room);
         is-live = is-live;
         ordered = store .ordered place within;
-        most = n;
-        fits = omega (arith, o .below, dead-more heads place room is-live n within, dead-below without n ordered, same-start heads place room is-live n);
+        fits = omega (arith, o .below, o .headed .small, store .room, store .ends, dead-more heads place room is-live n within, dead-below without n ordered, same-start heads place room is-live n);
       }
 
   -- The lookup has answered.
@@ -72,22 +85,22 @@ module _ (heads : List ℕ) (n id dead turns : ℕ) (o : Deletable heads n id de
       found : (place < n) × (idAt heads place ≡ 2 * id)
       found = subst (FoundIn heads n id) e f
 
-      pub at-removable : Removable heads place dead
-      at-removable = removable place (found .0) (found .1)
+      pub at-removable : length heads < 2 ^ 64 → Removable heads place dead
+      at-removable fits = removable place fits (found .0) (found .1)
 
       pub at-spent : length heads < 2 ^ 64 → spent ≤ 63
       at-spent fits = spent-few spent fits (subst (λ (x : Found). AtMostHalvings n (turnsOf x)) e t)
 
-      pub at-gone : length heads < 2 ^ 64 → (heads′ : List ℕ) (dead′ : ℕ) → heads′ ≡ set heads (2 * place) (idAt heads place + 1)
-          → dead′ ≡ dead + (startAt heads (place + 1) - startAt heads place) → DeletesOne heads n id dead turns heads′ (Done dead′ (turns + 1 + spent))
-      at-gone fits heads′ dead′ a d = record {
+      pub at-gone : length heads < 2 ^ 64 → (heads′ : List ℕ) (dead′ turns turns′ : ℕ) → heads′ ≡ set heads (2 * place) (idAt heads place + 1)
+          → dead′ ≡ dead + (startAt heads (place + 1) - startAt heads place + 1) → Counts turns (1 + spent) turns′ → DeletesOne heads n id dead turns heads′ (Done dead′ turns′)
+      at-gone fits heads′ dead′ turns turns′ a d c = record {
         case = record {
           place = place;
           within = found .0;
           is-id = found .1;
           after = a;
           count = d;
-          taken = record { at-least = omega arith; at-most = omega (arith, at-spent fits) };
+          taken = one-taken turns spent turns′ (at-spent fits) c;
         };
       }
 
@@ -95,14 +108,14 @@ module _ (heads : List ℕ) (n id dead turns : ℕ) (o : Deletable heads n id de
       pub nowhere-spent : length heads < 2 ^ 64 → spent ≤ 63
       nowhere-spent fits = spent-few spent fits (subst (λ (x : Found). AtMostHalvings n (turnsOf x)) e t)
 
-      pub nowhere-missing : length heads < 2 ^ 64 → DeletesOne heads n id dead turns heads (NotLive id dead (turns + 1 + spent))
-      nowhere-missing fits = record {
+      pub nowhere-missing : length heads < 2 ^ 64 → (turns turns′ : ℕ) → Counts turns (1 + spent) turns′ → DeletesOne heads n id dead turns heads (NotLive id dead turns′)
+      nowhere-missing fits turns turns′ c = record {
         case = record {
           lacks = subst (FoundIn heads n id) e f;
           after = refl;
           same = refl;
           count = refl;
-          taken = record { at-least = omega arith; at-most = omega (arith, nowhere-spent fits) };
+          taken = one-taken turns spent turns′ (nowhere-spent fits) c;
         };
       }
 
@@ -143,7 +156,7 @@ taking-start heads n ids h = record {
 }
 
 module _ (heads₀ : List ℕ) (n : ℕ) (all : List ℕ) (many : ℕ) (heads : List ℕ) (dead turns i : ℕ) (room : many ≤ length all)
-    (t : Taking heads₀ n (take many all) heads dead turns i) where
+    (few : many ≤ full) (t : Taking heads₀ n (take many all) heads dead turns i) where
   abbrev ids : List ℕ
   ids = take many all
 
@@ -172,13 +185,8 @@ module _ (heads₀ : List ℕ) (n : ℕ) (all : List ℕ) (many : ℕ) (heads : 
         let h : i < length ids = omega (arith, as-many) in
         rw (add-one i, drop-cons ids i 0 h, getD-take many all i 0 more, is-id)
 
-    pub taking-one : many < 2 ^ 57 → id < 2 ^ 60 → Deletable heads n id dead turns
-    taking-one few small = record {
-      headed = t .headed;
-      small = small;
-      below = omega (arith, t .counted .dead-more);
-      few = omega (arith, t .counted .at-most);
-    }
+    pub taking-one : id < 2 ^ 60 → Deletable heads n id dead
+    taking-one small = record { headed = t .headed; small = small; below = omega (arith, t .counted .dead-more) }
 
     module _ (heads′ : List ℕ) (r : Deleted) (d : DeletesOne heads n id dead turns heads′ r) where
       pub taking-on : (dead′ turns′ : ℕ) → r ≡ Done dead′ turns′ → Taking heads₀ n ids heads′ dead′ turns′ (i + 1)
@@ -203,7 +211,7 @@ module _ (heads₀ : List ℕ) (n : ℕ) (all : List ℕ) (many : ℕ) (heads : 
             within = omega (arith, as-many);
             counted = record {
               dead-more = omega (arith, same, dead-there, t .counted .dead-more, gone .count);
-              at-least = omega (arith, t .counted .at-least, gone .taken .at-least);
+              at-least = one-more i turns turns′ (omega arith) (t .counted .at-least) (gone .taken .at-least);
               at-most = omega (arith, t .counted .at-most, gone .taken .at-most);
               long = rw (gone .after, length-set) (t .counted .long);
             };
@@ -224,7 +232,7 @@ module _ (heads₀ : List ℕ) (n : ℕ) (all : List ℕ) (many : ℕ) (heads : 
             within = omega (arith, as-many);
             counted = record {
               dead-more = omega (arith, same, t .counted .dead-more, miss .count);
-              at-least = omega (arith, t .counted .at-least, miss .taken .at-least);
+              at-least = one-more i turns turns′ (omega arith) (t .counted .at-least) (miss .taken .at-least);
               at-most = omega (arith, t .counted .at-most, miss .taken .at-most);
               long = ap length (miss .after) ∙ t .counted .long;
             };

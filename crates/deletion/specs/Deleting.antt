@@ -3,50 +3,55 @@
 use Prim.Native.Nat.{ℕ, zero, suc, _+_, _-_, _*_, _%_, _^_, _<_, _≤_}
 use mathlib.Core.Path.{_≡_}
 use mathlib.Core.Bool.{true, false}
-use mathlib.Core.List.{List, map}
+use mathlib.Core.List.{List, [], _∷_, map}
 use lib.Dec.{eqb}
 use lib.ListN.{length, set, take}
 use Rattle.rules.specs.Judging.{Live, State, refused, goesOn, deletionNotLive, judgeDeletion}
 use Rattle.clauses.specs.Codes.{half}
+use Rattle.clauses.specs.Counting.{Reaches}
 use Rattle.clauses.specs.Store.{idAt, startAt, Store, Holds}
 use Rattle.deletion.specs.declared.Deleted.{Deleted}
 use Rattle.deletion.specs.declared.Deleted.the-variants.{Done, NotLive}
 
--- The heads belong to a store of n clauses.
+-- The heads belong to a store of n clauses, which has no more literals than a slice of them can have.
 pub record Headed (heads : List ℕ) (n : ℕ) : Type 0 where
   pub lits : List ℕ
   pub used : ℕ
   pub last : ℕ
   pub store : Store heads lits n used last
+  pub small : used < 2 ^ 63
 
--- How many literals the k-th clause has, if it is deleted.
+-- What the live clauses take: one for each, and one for each literal.
+unfoldable pub weight : Live → ℕ
+weight [] = 0
+weight (e ∷ live) = suc (length (e .1)) + weight live
+
+-- What the k-th clause takes, if it is deleted: one for itself, and one for each literal.
 unfoldable pub deadAt : List ℕ → ℕ → ℕ
-deadAt heads k = elim (eqb (idAt heads k % 2) 0) [ true ↦ 0 | false ↦ startAt heads (k + 1) - startAt heads k ]
+deadAt heads k = elim (eqb (idAt heads k % 2) 0) [ true ↦ 0 | false ↦ startAt heads (k + 1) - startAt heads k + 1 ]
 
--- How many literals the deleted ones of the first n clauses have: what compacting the store would give back.
+-- What the deleted ones of the first n clauses take: all that compacting the store would give back.
 unfoldable pub deadOf : List ℕ → ℕ → ℕ
 unfolding deadAt
 deadOf heads zero = 0
 deadOf heads (suc n) = deadOf heads n + deadAt heads n
 
--- The k-th clause is live, and its literals can be added to `dead`.
+-- The k-th clause is live, and what it takes can be added to `dead`.
 pub record Removable (heads : List ℕ) (k dead : ℕ) : Type 0 where
   pub room : 2 * k + 3 < length heads
   pub is-live : idAt heads k % 2 ≡ 0
   pub ordered : startAt heads k ≤ startAt heads (k + 1)
-  pub most : ℕ
-  pub fits : dead + (startAt heads (k + 1) - startAt heads k) ≤ startAt heads most
+  pub fits : dead + (startAt heads (k + 1) - startAt heads k + 1) < 2 ^ 64
 
--- What deleting one clause asks for: `dead` is no more than what is deleted in the store, and few turns were made so far.
-pub record Deletable (heads : List ℕ) (n id dead turns : ℕ) : Type 0 where
+-- What deleting one clause asks for: `dead` is no more than what is deleted in the store.
+pub record Deletable (heads : List ℕ) (n id dead : ℕ) : Type 0 where
   pub headed : Headed heads n
   pub small : id < 2 ^ 60
   pub below : dead ≤ deadOf heads n
-  pub few : turns < 2 ^ 63
 
--- One id took its own turn and those of a lookup, which are at most 63.
+-- One id took its own turn and those of a lookup, which are at most 63. A counter that is full stays so.
 pub record OneTaken (turns turns′ : ℕ) : Type 0 where
-  pub at-least : turns + 1 ≤ turns′
+  pub at-least : Reaches (turns + 1) turns′
   pub at-most : turns′ ≤ turns + 64
 
 -- The clause `id` was live, and is deleted.
@@ -55,7 +60,7 @@ pub record Gone (heads : List ℕ) (n id dead turns : ℕ) (heads′ : List ℕ)
   pub within : place < n
   pub is-id : idAt heads place ≡ 2 * id
   pub after : heads′ ≡ set heads (2 * place) (idAt heads place + 1)
-  pub count : dead′ ≡ dead + (startAt heads (place + 1) - startAt heads place)
+  pub count : dead′ ≡ dead + (startAt heads (place + 1) - startAt heads place + 1)
   pub taken : OneTaken turns turns′
 
 -- No live clause has the id, and nothing was changed.

@@ -1,6 +1,6 @@
 // Judging a deletion, document 01, section 5: the ids are taken in order, and each must be live. The clause that has an id is
-// looked up in the store of live clauses and marked as deleted. Its literals keep their room until the store is compacted; how
-// much room that is, is counted here. Nothing is promised of heads that belong to no store.
+// looked up in the store of live clauses and marked as deleted. It and its literals keep their room until the store is compacted;
+// how much room that is, is counted here. Nothing is promised of heads that belong to no store.
 use clauses::Found;
 ghost use mathlib.Core.Path.{_≡_};
 ghost use Prim.Native.Nat.{_+_, _-_, _*_, _/_, _<_, _≤_, _^_};
@@ -8,23 +8,23 @@ ghost use lib.ListN.{length, set};
 ghost use Rattle.clauses.specs.Store.{idAt, startAt};
 ghost use Rattle.deletion.specs.Deleting.{Headed, Removable, Deletable, DeletesOne, Deletes};
 
-// What a deletion came to: all ids were live; or this one was not. `dead` is how many literals the clauses have that were deleted
-// before that, and `turns` how many turns the loops made.
+// What a deletion came to: all ids were live; or this one was not. `dead` is one for each clause that was deleted before that and
+// one for each of its literals, and `turns` how many turns the loops made, up to the greatest count.
 pub enum Deleted {
     Done { dead: usize, turns: u64 },
     NotLive { id: u64, dead: usize, turns: u64 },
 }
 
-// Deletes the `k`-th clause, which is live, and adds the number of its literals to `dead`.
+// Deletes the `k`-th clause, which is live, and adds one and the number of its literals to `dead`.
 fn remove(heads: &mut [u64], k: usize, dead: usize) -> usize
     requires { ⌜ Removable (now heads) k dead ⌝ }
     ensures after { λ _. ⌜ now (heads .exit) ≡ set (now (heads .entry)) (2 * k) (idAt (now (heads .entry)) k + 1) ⌝ }
-    ensures count { λ r. ⌜ r ≡ dead + (startAt (now (heads .entry)) (k + 1) - startAt (now (heads .entry)) k) ⌝ }
+    ensures count { λ r. ⌜ r ≡ dead + (startAt (now (heads .entry)) (k + 1) - startAt (now (heads .entry)) k + 1) ⌝ }
 {
     let from = clauses::index(heads[2 * k + 1]);
     let end = clauses::index(heads[2 * (k + 1) + 1]);
     clauses::delete(heads, k);
-    dead + (end - from)
+    dead + ((end - from) + 1)
 }
 
 // Deletes the clause `id`, if it is live. `dead` and `turns` are counted on.
@@ -36,7 +36,7 @@ fn delete_one(
     dead: usize,
     turns: u64,
 ) -> Deleted
-    requires { ⌜ Deletable (now heads) n id dead turns ⌝ }
+    requires { ⌜ Deletable (now heads) n id dead ⌝ }
     ensures { λ r. ⌜ DeletesOne (now (heads .entry)) n id dead turns (now (heads .exit)) r ⌝ }
 {
     let r = clauses::lookup(heads, n, guess, id);
@@ -48,13 +48,13 @@ fn delete_one(
             let more = remove(heads, place, dead);
             Deleted::Done {
                 dead: more,
-                turns: turns + 1 + spent,
+                turns: clauses::plus(turns, 1 + spent),
             }
         }
         Found::Nowhere { turns: spent } => Deleted::NotLive {
             id: id,
             dead: dead,
-            turns: turns + 1 + spent,
+            turns: clauses::plus(turns, 1 + spent),
         },
     }
 }
@@ -62,7 +62,7 @@ fn delete_one(
 // Deletes the clauses whose ids the first `many` of `ids` stand for, in order, up to the first that is not live.
 pub fn delete_all(heads: &mut [u64], n: usize, guess: &[u32], ids: &[u32], many: usize) -> Deleted
     requires { ⌜ Headed (now heads) n ⌝ }
-    requires { ⌜ (many ≤ length (now ids)) × (many < 2 ^ 57) ⌝ }
+    requires { ⌜ many ≤ length (now ids) ⌝ }
     ensures { λ r. ⌜ Deletes (now (heads .entry)) n (now (ids .entry)) many (now (heads .exit)) r ⌝ }
 {
     let mut dead: usize = 0;

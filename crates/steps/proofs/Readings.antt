@@ -20,7 +20,7 @@ use Rattle.clauses.specs.Codes.{literalOf, hintOf, half}
 use Rattle.formula.proofs.Fillings.{placed-length}
 use Rattle.steps.specs.Partials.{Partial, atStart, resume, Advance, ends, unreadable, advance, afterwards, reach, taken}
 use Rattle.steps.specs.Feeding.{phaseOf, partialOf, Begun, Stands, Midway, GoesOn, Adds, Deletes, FeedCase, Feeds}
-use Rattle.steps.specs.Reading.{AtEndCase, AtEnd, UnreadCase, Unread, StepNone, StepStopped, StepCase, ReadsStep}
+use Rattle.steps.specs.Reading.{AtEndCase, AtEnd, UnreadCase, Unread, StepNone, StepStopped, LargeIn, StepShort, StepCase, ReadsStep}
 use Rattle.steps.specs.declared.feeding.Kind.{Kind}
 use Rattle.steps.specs.declared.feeding.Kind.the-variants.{Start, Body, Literals, Hints, Ids}
 use Rattle.steps.specs.declared.feeding.Phase.{Phase}
@@ -61,6 +61,15 @@ module _ (t : Found) (at i next end many : ℕ) (b : Bool) (e : AtEnd t b) where
 
   pub unread-nothing : b ≡ true → i ≡ at → Unread t at i next end many (NoStep next)
   unread-nothing q h = record { case = (subst (AtEndCase t) q (e .case), h, refl) }
+
+-- Where a token did not fit, a slice is shorter than the tokens of the step ask for, or there is a literal too large for `cells`.
+pub step-short : (cells : ℕ) (s : List ℕ) (at used : ℕ) (lits hints lits′ hints′ : List ℕ) (stop end many : ℕ) → StepShort cells s at used lits hints lits′ hints′ stop end many
+    → (length lits < used + length (tokens (drop at s))) ⊎ ((length hints < length (tokens (drop at s))) ⊎ LargeIn cells (tokens (drop at s)))
+step-short cells s at used lits hints lits′ hints′ stop end many h =
+    ⊎-elim
+    (λ l. inl (omega (arith, l, h .stopped .placed .count, h .stopped .at-least, h .left)))
+    (λ w. inr (⊎-elim (λ l. inl (omega (arith, l, h .stopped .noted .count, h .stopped .at-least, h .left))) inr w))
+    (h .short)
 
 -- A scan stays in the text.
 
@@ -241,9 +250,9 @@ module _ (cells : ℕ) (s : List ℕ) (at used : ℕ) (lits₀ hints₀ lits hin
         record {
           case = record {
             short = ⊎-elim
-                (λ l. inl (omega (arith, lits-same, r .stands .placed .count, code-count .0, token-count, ap length (next .is))))
+                (λ l. inl (omega (arith, lits-same)))
                 (λ w. inr (⊎-elim
-                (λ h. inl (omega (arith, hints-same, r .stands .noted .count, code-count .0, token-count, ap length (next .is))))
+                (λ h. inl (omega (arith, hints-same)))
                 (λ g. inr (record {
                   front = r .front;
                   token = next .tok;
@@ -255,6 +264,7 @@ module _ (cells : ℕ) (s : List ℕ) (at used : ℕ) (lits₀ hints₀ lits hin
                 }))
                 w))
                 (f .0 (midway next));
+            left = omega (arith, ap length (next .is));
             stopped = stopped lits′ hints′ (f .1) (f .2);
           };
         }

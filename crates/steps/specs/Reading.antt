@@ -97,9 +97,11 @@ pub record LargeIn (cells : ℕ) (ts : List Token) : Type 0 where
   pub reached : reach atStart front ≡ some sofar
   pub large : TooLarge cells sofar token
 
--- A slice is shorter than the tokens from `at` on ask for, or there is a literal too large for `cells`.
+-- The token at `stop` did not fit: the place behind the last literal is the end of its slice, or that behind the last hint is, or
+-- the token is a literal too large for `cells`. `step-short` in proofs/ compares the slices with the tokens from `at` on.
 pub record StepShort (cells : ℕ) (s : List ℕ) (at used : ℕ) (lits hints lits′ hints′ : List ℕ) (stop end many : ℕ) : Type 0 where
-  pub short : (length lits < used + length (tokens (drop at s))) ⊎ ((length hints < length (tokens (drop at s))) ⊎ LargeIn cells (tokens (drop at s)))
+  pub short : (length lits ≤ end) ⊎ ((length hints ≤ many) ⊎ LargeIn cells (tokens (drop at s)))
+  pub left : 1 ≤ length (tokens (drop stop s))
   pub stopped : StepStopped s at used lits hints lits′ hints′ stop end many
 
 -- What reading a step came to, by the answer.

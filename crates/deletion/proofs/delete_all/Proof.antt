@@ -2,6 +2,7 @@
 -- say (`Taking`). The measure is how many ids are left. Assumes nothing.
 use Prim.Native.Nat.{_-_}
 use mathlib.Core.Path.{_∙_}
+use native.Mathlib.Omega.{arith}
 use lib.ListN.{take}
 use Rattle.deletion.proofs.Removing.{Taking, taking-start, taking-one, taking-on, taking-missing, taking-done, one-long}
 use borrow.Author.Needs.{needs}
@@ -27,7 +28,7 @@ half-requires : tie.Need-half-requires Inv-loop μ-loop
 half-requires c κs = search needs
 
 delete-one-requires : tie.Need-delete-one-requires Inv-loop μ-loop
-delete-one-requires c κs = taking-one _ _ _ _ _ _ _ _ (c .before .before .before .before .before .before .before .before .pre .1 .0) (c .before .before .before .before .loop .inv) (c .before .before .before .loop-test .taken) _ (c .half .ensures .0) (c .before .before .before .before .before .before .before .before .pre .1 .1) (c .half .ensures .1)
+delete-one-requires c κs = taking-one _ _ _ _ _ _ _ _ (c .before .before .before .before .before .before .before .before .pre .1) (omega (arith, c .before .before .before .before .before .before .before .before .fits .many)) (c .before .before .before .before .loop .inv) (c .before .before .before .loop-test .taken) _ (c .half .ensures .0) (c .half .ensures .1)
 
 enum-known-r : tie.Need-enum-known-r Inv-loop μ-loop
 enum-known-r c = search needs
@@ -39,7 +40,7 @@ same-length : tie.Need-same-length Inv-loop μ-loop
 same-length c = one-long _ _ _ _ _ _ _ (c .before .before .before .before .before .delete-one .ensures) ∙ c .before .before .before .before .before .before .before .before .before .before .loop .inv .counted .long
 
 returns : tie.Need-returns Inv-loop μ-loop
-returns c = record { case = taking-missing _ _ _ _ _ _ _ _ (c .before .before .before .before .before .before .before .before .before .before .before .before .before .before .pre .1 .0) (c .before .before .before .before .before .before .before .before .before .before .loop .inv) (c .before .before .before .before .before .before .before .before .before .loop-test .taken) _ (c .before .before .before .before .before .before .half .ensures .0) _ _ (c .before .before .before .before .before .delete-one .ensures) _ _ _ (c .before .r2 .given .1) }
+returns c = record { case = taking-missing _ _ _ _ _ _ _ _ (c .before .before .before .before .before .before .before .before .before .before .before .before .before .before .pre .1) (omega (arith, c .before .before .before .before .before .before .before .before .before .before .before .before .before .before .fits .many)) (c .before .before .before .before .before .before .before .before .before .before .loop .inv) (c .before .before .before .before .before .before .before .before .before .loop-test .taken) _ (c .before .before .before .before .before .before .half .ensures .0) _ _ (c .before .before .before .before .before .delete-one .ensures) _ _ _ (c .before .r2 .given .1) }
 
 add-i : tie.Need-add-i Inv-loop μ-loop
 add-i c = search needs
@@ -48,13 +49,13 @@ loop-less : tie.Need-loop-less Inv-loop μ-loop
 loop-less c = search needs
 
 loop-again : tie.Need-loop-again Inv-loop μ-loop
-loop-again c = taking-on _ _ _ _ _ _ _ _ (c .before .before .before .before .before .before .before .before .before .before .before .before .before .before .pre .1 .0) (c .before .before .before .before .before .before .before .before .before .before .loop .inv) (c .before .before .before .before .before .before .before .before .before .loop-test .taken) _ (c .before .before .before .before .before .before .half .ensures .0) _ _ (c .before .before .before .before .before .delete-one .ensures) _ _ (c .before .r .given .1)
+loop-again c = taking-on _ _ _ _ _ _ _ _ (c .before .before .before .before .before .before .before .before .before .before .before .before .before .before .pre .1) (omega (arith, c .before .before .before .before .before .before .before .before .before .before .before .before .before .before .fits .many)) (c .before .before .before .before .before .before .before .before .before .before .loop .inv) (c .before .before .before .before .before .before .before .before .before .loop-test .taken) _ (c .before .before .before .before .before .before .half .ensures .0) _ _ (c .before .before .before .before .before .delete-one .ensures) _ _ (c .before .r .given .1)
 
 same-length-2 : tie.Need-same-length-2 Inv-loop μ-loop
 same-length-2 c = c .before .loop .inv .counted .long
 
 returns-2 : tie.Need-returns-2 Inv-loop μ-loop
-returns-2 c = record { case = taking-done _ _ _ _ _ _ _ _ (c .before .before .before .before .before .pre .1 .0) (c .before .loop .inv) (c .loop-test .left) }
+returns-2 c = record { case = taking-done _ _ _ _ _ _ _ _ (c .before .before .before .before .before .pre .1) (omega (arith, c .before .before .before .before .before .fits .many)) (c .before .loop .inv) (c .loop-test .left) }
 
 pub delete-all-spec : {M : Type 1} → statement M
 delete-all-spec =

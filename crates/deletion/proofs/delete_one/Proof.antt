@@ -7,40 +7,40 @@ use Rattle.deletion.proofs.delete_one.Statement.{statement}
 use Rattle.deletion.proofs.delete_one.Tie as tie
 
 lookup-requires : tie.Need-lookup-requires
-lookup-requires c κs = one-searchable _ _ _ _ _ (c .before .before .before .pre)
+lookup-requires c κs = one-searchable _ _ _ _ (c .before .before .before .pre)
 
 enum-known-r : tie.Need-enum-known-r
 enum-known-r c = search needs
 
 remove-requires : tie.Need-remove-requires
-remove-requires c κs = at-removable _ _ _ _ _ (c .before .before .before .before .before .before .before .before .pre) _ (c .before .before .before .before .lookup .ensures .0) (c .before .before .before .before .lookup .ensures .1) _ _ (c .before .before .r .given .1)
+remove-requires c κs = at-removable _ _ _ _ (c .before .before .before .before .before .before .before .before .pre) _ (c .before .before .before .before .lookup .ensures .0) (c .before .before .before .before .lookup .ensures .1) _ _ (c .before .before .r .given .1) (omega arith)
 
-add-t17 : tie.Need-add-t17
-add-t17 c = search needs
+add-plus : tie.Need-add-plus
+add-plus c = omega (arith, at-spent _ _ _ _ (c .before .before .before .before .before .before .before .before .before .before .before .pre) _ (c .before .before .before .before .before .before .before .lookup .ensures .0) (c .before .before .before .before .before .before .before .lookup .ensures .1) _ _ (c .before .before .before .before .before .r .given .1) (omega arith))
 
-add-t18 : tie.Need-add-t18
-add-t18 c = omega (arith, at-spent _ _ _ _ _ (c .before .before .before .before .before .before .before .before .before .before .before .pre) _ (c .before .before .before .before .before .before .before .lookup .ensures .0) (c .before .before .before .before .before .before .before .lookup .ensures .1) _ _ (c .before .before .before .before .before .r .given .1) (omega arith), c .before .before .before .before .before .before .before .before .before .before .before .pre .few)
+plus-requires : tie.Need-plus-requires
+plus-requires c κs = search needs
 
 enum-known-r-2 : tie.Need-enum-known-r-2
 enum-known-r-2 c = search needs
 
-add-t19 : tie.Need-add-t19
-add-t19 c = search needs
+add-plus-2 : tie.Need-add-plus-2
+add-plus-2 c = omega (arith, nowhere-spent _ _ _ _ (c .before .before .before .before .before .before .before .pre) _ (c .before .before .before .lookup .ensures .0) (c .before .before .before .lookup .ensures .1) _ (c .before .r2 .given .1) (omega arith))
 
-add-t20 : tie.Need-add-t20
-add-t20 c = omega (arith, nowhere-spent _ _ _ _ _ (c .before .before .before .before .before .before .before .pre) _ (c .before .before .before .lookup .ensures .0) (c .before .before .before .lookup .ensures .1) _ (c .before .r2 .given .1) (omega arith), c .before .before .before .before .before .before .before .pre .few)
+plus-requires-2 : tie.Need-plus-requires-2
+plus-requires-2 c κs = search needs
 
 same-length : tie.Need-same-length
 same-length c = search needs
 
 returns : tie.Need-returns
-returns c = at-gone _ _ _ _ _ (c .before .before .before .before .before .before .before .before .before .before .before .pre) _ (c .before .before .before .before .before .before .before .lookup .ensures .0) (c .before .before .before .before .before .before .before .lookup .ensures .1) _ _ (c .before .before .before .before .before .r .given .1) (omega arith) _ _ (c .before .before .remove .ensures .0) (c .before .before .remove .ensures .1)
+returns c = at-gone _ _ _ _ (c .before .before .before .before .before .before .before .before .before .before .before .before .pre) _ (c .before .before .before .before .before .before .before .before .lookup .ensures .0) (c .before .before .before .before .before .before .before .before .lookup .ensures .1) _ _ (c .before .before .before .before .before .before .r .given .1) (omega arith) _ _ _ _ (c .before .before .before .remove .ensures .0) (c .before .before .before .remove .ensures .1) (c .plus .ensures)
 
 same-length-2 : tie.Need-same-length-2
 same-length-2 c = search needs
 
 returns-2 : tie.Need-returns-2
-returns-2 c = nowhere-missing _ _ _ _ _ (c .before .before .before .before .before .before .before .pre) _ (c .before .before .before .lookup .ensures .0) (c .before .before .before .lookup .ensures .1) _ (c .before .r2 .given .1) (omega arith)
+returns-2 c = nowhere-missing _ _ _ _ (c .before .before .before .before .before .before .before .before .pre) _ (c .before .before .before .before .lookup .ensures .0) (c .before .before .before .before .lookup .ensures .1) _ (c .before .before .r2 .given .1) (omega arith) _ _ (c .plus2 .ensures)
 
 pub delete-one-spec : {M : Type 1} → statement M
 delete-one-spec =
@@ -49,11 +49,11 @@ delete-one-spec =
     lookup-requires
     enum-known-r
     remove-requires
-    add-t17
-    add-t18
+    add-plus
+    plus-requires
     enum-known-r-2
-    add-t19
-    add-t20
+    add-plus-2
+    plus-requires-2
     same-length
     returns
     same-length-2
