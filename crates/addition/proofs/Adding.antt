@@ -1,6 +1,6 @@
 -- Laws of the rules put together: behind the hints of rule 3, the hints themselves, and the clause that is to be added. Assumes
 -- nothing.
-use Prim.Native.Nat.{ℕ, _+_, _-_, _^_, _<_, _≤_}
+use Prim.Native.Nat.{ℕ, _+_, _-_, _*_, _^_, _<_, _≤_}
 use mathlib.Core.Path.{_≡_, refl, sym, ap, subst, _∙_}
 use mathlib.Core.Bool.{Bool, true, false, true≢false, false≢true}
 use mathlib.Core.List.{List, [], _∷_, map}
@@ -15,6 +15,7 @@ use Rattle.rules.specs.Steps.{Hint}
 use Rattle.rules.specs.Judging.{Ground as Fault, idNotFresh, noConflict, groupsDontMatch, oppositeLiterals, Live, opposite, containing, mismatch, hasOpposites, Trail, Taken, conflict, badHint, hintsEnd, takeHints, leading, groups, groupsFault, afterHints, hintsFault, additionFault}
 use Rattle.clauses.specs.Codes.{literalOf, oppositeCode, hintOf}
 use Rattle.clauses.specs.Store.{liveOf}
+use Rattle.clauses.specs.Counting.{Counts}
 use Rattle.clauses.specs.Moving.{Stored}
 use Rattle.clauses.proofs.Literals.{literal-opposite}
 use Rattle.clauses.proofs.Parts.{part-slice}
@@ -25,7 +26,7 @@ use Rattle.groups.specs.declared.Matched.{Matched}
 use Rattle.groups.specs.declared.Matched.the-variants.{All, Differ}
 use Rattle.groups.proofs.Hints.{groups-first, leading-next}
 use Rattle.groups.proofs.Walking.{walked-few}
-use Rattle.judge.specs.Hints.{Span, SaysCase as HintsSay, Ends, PassedCase, Takes, idsIn, mostHints}
+use Rattle.judge.specs.Hints.{SaysCase as HintsSay, Ends, PassedCase, Takes, idsIn}
 use Rattle.judge.specs.Falsifying.{PassedCase as FellCase, ClauseCase, FalsifiesClause}
 use Rattle.judge.proofs.Taking.{ready-again}
 use Rattle.judge.specs.declared.hints.How.{How}
@@ -38,7 +39,7 @@ use Rattle.addition.specs.declared.Ground.the-variants.{IdNotFresh, NoCo
 use Rattle.addition.specs.declared.Verdict.{Verdict}
 use Rattle.addition.specs.declared.Verdict.the-variants.{Refused, TooShort}
 use Rattle.addition.proofs.Verdicts.{says-more, passed-few}
-use Rattle.addition.proofs.Costs.{costs-add, costs-few, ready-short, cost-most, ids-long}
+use Rattle.addition.proofs.Costs.{costs-add, ready-short, cost-most, ids-long}
 
 -- Rules 4 and 5
 
@@ -62,7 +63,7 @@ clause-empty lits used end h = ap (map literalOf) (drop-of-length-le (take end l
 clause-first : (lits : List ℕ) (used end : ℕ) → used < end → end ≤ length lits → clauseIn lits used end ≡ literalOf (getD lits used 0) ∷ map literalOf (slice (used + 1) end lits)
 clause-first lits used end h l = ap (map literalOf) (slice-cons used end lits 0 h l) ∙ rw (add-one used)
 
-module _ (heads lits : List ℕ) (n : ℕ) (marks hints : List ℕ) (fit : Fit heads lits n marks hints) (from : ℕ) (first : NextGroup hints 0 from) (used end : ℕ) (clausal : Clausal lits used end marks) (before : ℕ) where
+module _ (heads lits : List ℕ) (n : ℕ) (marks hints : List ℕ) (fit : Fit heads lits n marks) (from : ℕ) (first : NextGroup hints 0 from) (used end : ℕ) (clausal : Clausal lits used end marks) (before : ℕ) where
   abbrev live : Live
   live = liveOf heads lits n
 
@@ -98,7 +99,7 @@ module _ (heads lits : List ℕ) (n : ℕ) (marks hints : List ℕ) (fit : Fit h
       all-match : AllMatch heads lits n hints from q turns
       all-match = subst (MatchesCase heads lits n hints from q) e (matches .case)
 
-      pub rest-turns : turns ≤ n + m + length hints
+      rest-turns : turns ≤ n + m + length hints
       rest-turns = walked-few heads lits n hints from n (length hints) turns rest-stored (omega arith) (all-match .walked)
 
       rest-groups : (a : Trail) → afterHints live a (clauseIn lits used end) (groups (map hintOf hints)) ≡ groupsFault live a (literalOf q) (groupsFrom hints from)
@@ -109,34 +110,34 @@ module _ (heads lits : List ℕ) (n : ℕ) (marks hints : List ℕ) (fit : Fit h
           ∙ (ap (λ (l : Literal). groupsFault live a l (groups (map hintOf hints))) (sym q-is)
           ∙ ap (groupsFault live a (literalOf q)) (groups-first hints from first)))
 
-      pub rest-all : (tape : List ℕ) (t : ℕ) (marks′ tape′ : List ℕ) (v : Verdict) (turns′ : ℕ) → JudgesGroups live lits hints from marks tape t q (before + turns) marks′ tape′ v turns′
+      pub rest-all : (sum : ℕ) → Counts before turns sum → (tape : List ℕ) (t : ℕ) (marks′ tape′ : List ℕ) (v : Verdict) (turns′ : ℕ) → JudgesGroups live lits hints from marks tape t q sum marks′ tape′ v turns′
           → JudgesRest live n lits hints from (clauseIn lits used end) marks tape t before marks′ tape′ v turns′
-      rest-all tape t marks′ tape′ v turns′ j = record {
+      rest-all sum together tape t marks′ tape′ v turns′ j = record {
         back = j .back;
         laid = j .laid;
         says = λ a s.
             says-more (groupsFault live a (literalOf q) (groupsFrom hints from)) (afterHints live a (clauseIn lits used end) (groups (map hintOf hints))) (length tape) (t + m + (length hints - from)) (length tape) (t + m + (length hints - from)) v
             (rest-groups a) refl (omega arith) (j .says a s);
-        counted = omega (arith, j .counted);
-        bounded = omega (arith, j .bounded, rest-turns);
+        counted = omega (arith, j .counted, together .first);
+        bounded = omega (arith, j .bounded, rest-turns, together .at-most);
       }
 
     module _ (id turns : ℕ) (e : r ≡ Differ id turns) where
       one-differs : OneDiffers heads lits n hints from q id turns
       one-differs = subst (MatchesCase heads lits n hints from q) e (matches .case)
 
-      pub rest-few : turns ≤ n + m + length hints
+      rest-few : turns ≤ n + m + length hints
       rest-few = walked-few heads lits n hints from (one-differs .passed) (one-differs .at) turns rest-stored (one-differs .some-of) (one-differs .walked)
 
-      pub rest-differ : (tape : List ℕ) (t : ℕ) → t ≤ length tape → JudgesRest live n lits hints from (clauseIn lits used end) marks tape t before marks tape (Refused (GroupsDontMatch id)) (before + turns)
-      rest-differ tape t room =
+      pub rest-differ : (sum : ℕ) → Counts before turns sum → (tape : List ℕ) (t : ℕ) → t ≤ length tape → JudgesRest live n lits hints from (clauseIn lits used end) marks tape t before marks tape (Refused (GroupsDontMatch id)) sum
+      rest-differ sum together tape t room =
           let there : mismatch (containing (opposite p) live) (groups (map hintOf hints)) ≡ some id = rw (← q-is) (one-differs .is (fit .ready .used) (fit .ready .last) live (record { store = fit .ready .store; same = refl })) in
           record {
             back = refl;
             laid = laid-none marks tape t room;
             says = λ a s. record { case = ap (λ (k : Clause). afterHints live a k (groups (map hintOf hints))) k-is ∙ after-differ live a p (map literalOf (slice (used + 1) end lits)) (groups (map hintOf hints)) id there };
-            counted = omega arith;
-            bounded = omega (arith, rest-few);
+            counted = together .first;
+            bounded = omega (arith, rest-few, together .at-most);
           }
 
 -- Rule 3
@@ -170,15 +171,12 @@ ends-there r marks′ (EndsNotForced h) s y = absurd (false≢true y)
 ends-there r marks′ Ended s y = s
 ends-there r marks′ EndsTooShort s y = absurd (false≢true y)
 
-module _ (heads lits : List ℕ) (n : ℕ) (marks hints : List ℕ) (used end : ℕ) (begun : Begun heads lits n marks hints (clauseIn lits used end) AllFalse) (clausal : Clausal lits used end marks) (from : ℕ) (first : NextGroup hints 0 from) where
+module _ (heads lits : List ℕ) (n : ℕ) (marks hints : List ℕ) (used end : ℕ) (begun : Begun heads lits n marks (clauseIn lits used end) AllFalse) (clausal : Clausal lits used end marks) (from : ℕ) (first : NextGroup hints 0 from) where
   abbrev now-live : Live
   now-live = liveOf heads lits n
 
   abbrev k : Clause
   k = clauseIn lits used end
-
-  pub first-span : Span hints 0 from
-  first-span = record { forward = omega arith; inside = first .group .within; few = omega (arith, begun .few, first .group .within) }
 
   leading-is : leading (map hintOf hints) ≡ idsIn hints 0 from
   unfolding idsIn
@@ -204,9 +202,6 @@ module _ (heads lits : List ℕ) (n : ℕ) (marks hints : List ℕ) (used end : 
     both-costs : costs (length lits) (length hints) ≡ costs (length lits) from + costs (length lits) (length hints - from)
     both-costs = ap (costs (length lits)) (let sum : length hints ≡ from + (length hints - from) = omega (arith, first .group .within) in sum) ∙ costs-add (length lits) from (length hints - from)
 
-    pub hints-turns : (before : ℕ) → before + (n + length lits + length hints) + costs (length lits) (length hints) < 2 ^ 64 → before + counted + taken + (n + length lits + length hints) + costs (length lits) (length hints - from) < 2 ^ 64
-    hints-turns before small = omega (arith, both-costs, taken-few)
-
     few-there : t₁ ≤ t + from
     few-there = omega (arith, passed-few (length (idsIn hints 0 from)) (length tape) t t₁ how (takes .passed), from-long)
 
@@ -215,35 +210,35 @@ module _ (heads lits : List ℕ) (n : ℕ) (marks hints : List ℕ) (used end : 
       ends : Ends r m₁
       ends = ends-there r m₁ how says-there (sym is-b ∙ y)
 
-      pub hints-fit : Fit heads lits n m₁ hints
-      hints-fit = record { ready = ready-again heads lits n marks m₁ (begun .ready) (takes .laid .differ .long); short = begun .short; few = begun .few; trail = ends .trail; shows = ends .shows }
+      pub hints-fit : Fit heads lits n m₁
+      hints-fit = record { ready = ready-again heads lits n marks m₁ (begun .ready) (takes .laid .differ .long); trail = ends .trail; shows = ends .shows }
 
       pub hints-clausal : Clausal lits used end m₁
       hints-clausal = record { forward = clausal .forward; inside = clausal .inside; known = λ i l u. rw (takes .laid .differ .long) (clausal .known i l u) }
 
-      pub hints-ended : (before : ℕ) (m₂ tape₂ : List ℕ) (v : Verdict) (turns : ℕ) → JudgesRest now-live n lits hints from k m₁ tape₁ t₁ (before + counted + taken) m₂ tape₂ v turns
+      pub hints-ended : (before passed sum : ℕ) → Counts before counted passed → Counts passed taken sum → (m₂ tape₂ : List ℕ) (v : Verdict) (turns : ℕ) → JudgesRest now-live n lits hints from k m₁ tape₁ t₁ sum m₂ tape₂ v turns
           → JudgesHints now-live n lits hints k marks tape t before m₂ tape₂ v t₁ turns
-      hints-ended before m₂ tape₂ v turns j = record {
+      hints-ended before passed sum first-two all-three m₂ tape₂ v turns j = record {
         laid = rw (j .back) (laid-join marks tape t m₁ tape₁ t₁ m₁ tape₂ t₁ (takes .laid) (j .laid));
         few = omega (arith, few-there, first .group .within);
         says =
             says-more (afterHints now-live (ends .trail) k (groups (map hintOf hints))) (hintsFault now-live k (map hintOf hints)) (length tape₁) (t₁ + length lits + (length hints - from)) (length tape) (t + length lits + length hints) v
             (hints-end now-live k (map hintOf hints) (ends .trail) (r-is ∙ ends .is)) (takes .laid .long) (omega (arith, few-there, first .group .within)) (j .says (ends .trail) (ends .shows));
-        counted = omega (arith, j .counted);
-        bounded = omega (arith, j .bounded, both-costs, taken-few);
+        counted = omega (arith, j .counted, first-two .first, all-three .first);
+        bounded = omega (arith, j .bounded, both-costs, taken-few, first-two .at-most, all-three .at-most);
       }
 
     -- They have not.
-    pub hints-other : (b : Bool) → b ≡ endedAt how → b ≡ false → (before : ℕ) (v : Verdict) → v ≡ verdictBy how 0 → JudgesHints now-live n lits hints k marks tape t before m₁ tape₁ v t₁ (before + counted + taken)
-    hints-other b is-b f before v e = record {
+    pub hints-other : (b : Bool) → b ≡ endedAt how → b ≡ false → (before passed sum : ℕ) → Counts before counted passed → Counts passed taken sum → (v : Verdict) → v ≡ verdictBy how 0 → JudgesHints now-live n lits hints k marks tape t before m₁ tape₁ v t₁ sum
+    hints-other b is-b f before passed sum first-two all-three v e = record {
       laid = takes .laid;
       few = omega (arith, few-there, first .group .within);
       says =
           says-more (hintsFault now-live k (map hintOf hints)) (hintsFault now-live k (map hintOf hints)) (length tape) (t + length (idsIn hints 0 from)) (length tape) (t + length lits + length hints) v
           refl refl (omega (arith, from-long, first .group .within))
           (rw e (hints-settled now-live k (map hintOf hints) r m₁ (length (idsIn hints 0 from)) (length tape) t t₁ r-is how says-there (takes .passed) (sym is-b ∙ f)));
-      counted = omega arith;
-      bounded = omega (arith, both-costs, taken-few);
+      counted = omega (arith, first-two .first, all-three .first);
+      bounded = omega (arith, both-costs, taken-few, first-two .at-most, all-three .at-most);
     }
 
 -- Behind rule 2
@@ -261,8 +256,8 @@ module _ (live : Live) (n : ℕ) (lits hints : List ℕ) (k : Clause) (f : Falsi
   pub behind-short : f ≡ NoRoom → t ≤ length tape → JudgesBehind live n lits hints k f marks tape t before marks tape TooShort t before
   behind-short e room = behind-still TooShort room (rw e refl)
 
-pub begun-false : (heads lits : List ℕ) (n : ℕ) (marks hints : List ℕ) (k : Clause) (f : Falsity) → Begun heads lits n marks hints k f → f ≡ AllFalse → Begun heads lits n marks hints k AllFalse
-begun-false heads lits n marks hints k f b e = record { ready = b .ready; short = b .short; few = b .few; shows = λ z. b .shows e }
+pub begun-false : (heads lits : List ℕ) (n : ℕ) (marks : List ℕ) (k : Clause) (f : Falsity) → Begun heads lits n marks k f → f ≡ AllFalse → Begun heads lits n marks k AllFalse
+begun-false heads lits n marks k f b e = record { ready = b .ready; shows = λ z. b .shows e }
 
 -- All rules
 
@@ -301,11 +296,9 @@ module _ (heads lits : List ℕ) (n used end : ℕ) (marks : List ℕ) (add : Ad
     outcome : ClauseCase (clauseIn lits used end) m₁ f
     outcome = subst (λ (k : Clause). ClauseCase k m₁ f) part-is (fell .outcome (add .shows))
 
-    pub clause-begun : (hints : List ℕ) → length hints ≤ mostHints → Begun heads lits n m₁ hints (clauseIn lits used end) f
-    clause-begun hints few = record {
+    pub clause-begun : Begun heads lits n m₁ (clauseIn lits used end) f
+    clause-begun = record {
       ready = ready-again heads lits n marks m₁ (add .ready) (fell .laid .differ .long);
-      short = add .short;
-      few = few;
       shows = λ e. subst (ClauseCase (clauseIn lits used end) m₁) e outcome .shows;
     }
 
@@ -321,13 +314,11 @@ module _ (heads lits : List ℕ) (n used end : ℕ) (marks : List ℕ) (add : Ad
       counted-few : counted ≤ length lits
       counted-few = omega (arith, passed-most f (fell .so-many), add .clausal .inside)
 
-      pub clause-room : counted < 2 ^ 60
-      clause-room = omega (arith, counted-few, add .short)
+      -- They can be counted, since no slice is that long.
+      pub clause-room : length lits * 4 < 2 ^ 63 → counted + 1 < 2 ^ 64
+      clause-room short = omega (arith, counted-few)
 
-      module _ (hints : List ℕ) (few : length hints ≤ mostHints) where
-        pub clause-turns : length heads < 2 ^ 64 → counted + 1 + (n + length lits + length hints) + costs (length lits) (length hints) < 2 ^ 64
-        clause-turns long = omega (arith, counted-few, add .short, add .ready .store .room, costs-few (length lits) (length hints) (add .short) few)
-
+      module _ (hints : List ℕ) where
         module _ (m₂ tape₂ : List ℕ) (v : Verdict) (t₂ turns : ℕ) (j : JudgesBehind (liveOf heads lits n) n lits hints (clauseIn lits used end) f m₁ tape₁ t₁ (counted + 1) m₂ tape₂ v t₂ turns) where
           both-laid : Laid marks tape 0 m₂ tape₂ t₂
           both-laid = laid-join marks tape 0 m₁ tape₁ t₁ m₂ tape₂ t₂ (fell .laid) (j .laid)
@@ -346,16 +337,13 @@ module _ (heads lits : List ℕ) (n used end : ℕ) (marks : List ℕ) (add : Ad
           clause-says last id fresh NoRoom o p s = rw s (record { case = omega (arith, p .0, p .1, fell .few, part-long) })
 
           module _ (m₃ : List ℕ) (back : ℕ) (undone : Undone m₂ tape₂ 0 t₂ m₃) (b : back ≡ t₂ - 0) where
-            pub clause-judged : JudgesClause (liveOf heads lits n) n lits used end hints marks tape m₃ tape₂ v (turns + back)
-            clause-judged = record {
+            pub clause-judged : (all : ℕ) → Counts turns back all → JudgesClause (liveOf heads lits n) n lits used end hints marks tape m₃ tape₂ v all
+            clause-judged all together = record {
               back = undone .back marks (both-laid .differ);
               long = both-laid .long;
               says = λ last id fresh. clause-says last id fresh f outcome (fell .so-many) (j .case);
-              bounded = omega (arith, j .bounded, j .few, fell .few, passed-most f (fell .so-many), add .clausal .inside);
+              bounded = omega (arith, j .bounded, j .few, fell .few, passed-most f (fell .so-many), add .clausal .inside, together .at-most);
             }
-
-            pub clause-all : length heads < 2 ^ 64 → turns + back < 2 ^ 64
-            clause-all long = omega (arith, clause-judged .bounded, add .short, few, add .ready .store .room, costs-few (length lits) (length hints) (add .short) few)
 
 -- The first half of rule 1.
 module _ (heads lits : List ℕ) (n used end : ℕ) (hints : List ℕ) (many last id : ℕ) (marks tape : List ℕ) where

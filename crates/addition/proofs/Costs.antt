@@ -1,4 +1,4 @@
--- Laws of the turns: what hints can cost at most, and that this can be counted. Assumes nothing.
+-- Laws of the turns: what hints can cost at most. Assumes nothing.
 use Prim.Native.Nat.{ℕ, zero, suc, _+_, _-_, _*_, _/_, _%_, _<_, _≤_}
 use mathlib.Core.Path.{_≡_, refl, sym, ap, _∙_}
 use mathlib.Core.List.{List, [], _∷_, _++_, map}
@@ -18,8 +18,8 @@ use Rattle.clauses.specs.Codes.{literalOf, half}
 use Rattle.clauses.specs.Store.{idAt, startAt, clauseAt, entryAt, liveOf}
 use Rattle.clauses.proofs.Looking.{find-front, find-behind}
 use Rattle.clauses.proofs.Entries.{entry-live, entry-deleted, clause-is, live-suc, live-none, start-below}
-use Rattle.judge.specs.Hints.{Ready, mostHints, idsIn, cost}
-use Rattle.addition.specs.Verdicts.{costs, fewLiterals}
+use Rattle.judge.specs.Hints.{Ready, idsIn, cost}
+use Rattle.addition.specs.Verdicts.{costs}
 
 module _ (m : ℕ) where
   pub costs-add : (a b : ℕ) → costs m (a + b) ≡ costs m a + costs m b
@@ -44,11 +44,6 @@ module _ (m : ℕ) where
   pub costs-least : (a : ℕ) → 70 * a ≤ costs m a
   unfolding costs
   costs-least a = omega (arith, mul-comm 70 a, mul-le-mul {n₁ = a} {m₁ = 70} {n₂ = a} {m₂ = 2 * m + 70} (omega arith) (omega arith))
-
-  -- They can be counted.
-  pub costs-few : (a : ℕ) → m ≤ fewLiterals → a ≤ mostHints → costs m a ≤ 4_611_686_027_822_628_864
-  unfolding costs
-  costs-few a h l = mul-le-mul {n₁ = a} {m₁ = 2 * m + 70} {n₂ = 134_217_728} {m₂ = 34_359_738_438} l (omega arith)
 
 -- The clauses of a store are no longer than all its literals.
 

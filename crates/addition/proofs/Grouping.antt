@@ -1,6 +1,7 @@
 -- Laws of judging groups: one group by itself, and one after the other. Assumes nothing.
 use Prim.Native.Nat.{ℕ, _+_, _-_, _*_, _/_, _^_, _<_, _≤_}
 use mathlib.Core.Path.{_≡_, refl, sym, ap, subst, _∙_}
+use mathlib.Core.Logic.{inl}
 use mathlib.Core.Bool.{Bool, true, false, _||_, true≢false, false≢true}
 use mathlib.Core.List.{List, [], _∷_, _++_, map}
 use mathlib.Core.Option.{Option, none, some}
@@ -12,8 +13,10 @@ use Rattle.rules.specs.Judging.{Ground as Fault, Live, find, hintNotLive, oppos
 use Rattle.rules.proofs.Options.{some-none, option-cases}
 use Rattle.clauses.specs.Codes.{literalOf}
 use Rattle.clauses.specs.Store.{startAt, liveOf}
+use Rattle.clauses.specs.Counting.{Reaches, Counts}
 use Rattle.clauses.proofs.Entries.{clause-is}
 use Rattle.clauses.proofs.Holding.{holds-found, holds-lacks}
+use Rattle.clauses.proofs.Counting.{reaches-less, reaches-plus}
 use Rattle.clauses.specs.Finding.{FoundIn, turnsOf, AtMostHalvings}
 use Rattle.clauses.specs.declared.Found.{Found}
 use Rattle.clauses.specs.declared.Found.the-variants.{At, Nowhere}
@@ -34,7 +37,7 @@ use Rattle.addition.specs.declared.Ground.the-variants.{HintNotLive}
 use Rattle.addition.specs.declared.Verdict.{Verdict}
 use Rattle.addition.specs.declared.Verdict.the-variants.{Accepted, Refused, TooShort}
 use Rattle.addition.proofs.Verdicts.{says-more}
-use Rattle.addition.proofs.Costs.{costs-add, costs-next, costs-least, costs-more, costs-few, ready-short, cost-most, ids-long}
+use Rattle.addition.proofs.Costs.{costs-add, costs-next, costs-least, costs-more, ready-short, cost-most, ids-long}
 
 -- The hints of a group, by whether they are taken.
 module _ (live : Live) (n d : ℕ) (ids : List ℕ) (f : Falsity) (marks tape : List ℕ) (t : ℕ) where
@@ -120,24 +123,24 @@ module _ (live : Live) (n : ℕ) (lits xs marks tape : List ℕ) (t q d : ℕ) (
   there-taken short few a NoRoom o k = omega (arith, k .1, cost-most live m short ids a)
 
   module _ (short : (id : ℕ) (c : Clause) → find id live ≡ some c → length c ≤ m) (few : n ≤ 2 ^ 64) (a : Trail) (s : Shows marks a) (room : t ≤ length tape) (before : ℕ) (small : before < 65 + length ids)
-      (m₃ : List ℕ) (back counted : ℕ) (undone : Undone m₂ tape₂ t t₂ m₃) (b : back ≡ t₂ - t) (c : counted ≡ passed) where
-    there-bounded : before + counted + 1 + taken + back ≤ costs m (length ids + 1)
+      (m₃ : List ℕ) (back counted : ℕ) (undone : Undone m₂ tape₂ t t₂ m₃) (b : back ≡ t₂ - t) (c : counted ≡ passed) (all : ℕ) (together : Counts (before + counted + 1 + back) taken all) where
+    there-bounded : all ≤ costs m (length ids + 1)
     there-bounded =
-        omega (arith, there-taken short few a f (fell .outcome a s) (tried .case), there-passed f (fell .so-many), costs-next m (length ids), fell .few, tried .few)
+        omega (arith, there-taken short few a f (fell .outcome a s) (tried .case), there-passed f (fell .so-many), costs-next m (length ids), fell .few, tried .few, together .at-most)
 
-    there-judged : JudgesGroup live lits marks tape t q d ids before m₃ tape₂ v (before + counted + 1 + taken + back)
+    there-judged : JudgesGroup live lits marks tape t q d ids before m₃ tape₂ v all
     there-judged = record {
       back = undone .back marks (both-laid .differ);
       laid = laid-back marks tape t marks tape t m₂ tape₂ t₂ (laid-none marks tape t room) both-laid;
       says = λ e h.
           says-more (groupFault live e d others ids) (groupsFault live e (literalOf q) ((d, ids) ∷ [])) (length tape) (t + m + length ids) (length tape) (t + m + length ids) v
           (group-alone live e (literalOf q) d ids (map literalOf xs) found) refl (omega arith) (there-says e f (fell .outcome e h) (fell .so-many) (tried .case));
-      counted = omega arith;
+      counted = omega (arith, together .first);
       bounded = there-bounded;
     }
 
 -- The same for the clause at a place of the store.
-module _ (heads lits : List ℕ) (n : ℕ) (marks hints : List ℕ) (fit : Fit heads lits n marks hints) (tape : List ℕ) (t : ℕ) (room : t ≤ length tape) (from to : ℕ) (span : Span hints from to)
+module _ (heads lits : List ℕ) (n : ℕ) (marks hints : List ℕ) (fit : Fit heads lits n marks) (tape : List ℕ) (t : ℕ) (room : t ≤ length tape) (from to : ℕ) (span : Span hints from to)
     (q d place : ℕ) (at : PlaceOf heads n d place) (look : Lookable heads lits marks place) (start end : ℕ) (p : start ≡ startAt heads place) (r : end ≡ startAt heads (place + 1)) where
   abbrev part : List ℕ
   part = take (end - start) (drop start lits)
@@ -164,20 +167,23 @@ module _ (heads lits : List ℕ) (n : ℕ) (marks hints : List ℕ) (fit : Fit h
       pub place-undoable : Undoable m₂ tape₂ t t₂
       place-undoable = there-undoable live n lits part marks tape t q d (idsIn hints from to) part-found part-long m₁ tape₁ f t₁ passed fell m₂ tape₂ v t₂ taken tried
 
-      module _ (long : length heads < 2 ^ 64) (before : ℕ) (small : before < 65 + (to - from)) (m₃ : List ℕ) (back counted : ℕ) (undone : Undone m₂ tape₂ t t₂ m₃) (b : back ≡ t₂ - t) (c : counted ≡ passed) where
-        pub place-judged : JudgesGroup live lits marks tape t q d (idsIn hints from to) before m₃ tape₂ v (before + counted + 1 + taken + back)
-        place-judged =
-            there-judged live n lits part marks tape t q d (idsIn hints from to) part-found part-long m₁ tape₁ f t₁ passed fell m₂ tape₂ v t₂ taken tried
-            (ready-short heads lits n marks (fit .ready)) (omega (arith, fit .ready .store .room)) (fit .trail) (fit .shows) room before (omega (arith, ids-long hints from to (span .inside))) m₃ back counted undone b c
+      module _ (before : ℕ) (small : before < 65 + (to - from)) (m₃ : List ℕ) (back counted : ℕ) (undone : Undone m₂ tape₂ t t₂ m₃) (b : back ≡ t₂ - t) (c : counted ≡ passed) where
+        -- The turns of the group but for those of its hints can be counted, since no slice is that long.
+        pub place-room : length lits * 4 < 2 ^ 63 → length tape * 4 < 2 ^ 63 → length hints * 4 < 2 ^ 63 → before + counted + 1 + back < 2 ^ 64
+        place-room shortLits shortTape shortHints =
+            omega (arith, there-passed live n lits part marks tape t q d (idsIn hints from to) part-found part-long m₁ tape₁ f t₁ passed fell m₂ tape₂ v t₂ taken tried f (fell .so-many), tried .laid .room, tried .laid .long, fell .laid .long, span .inside)
 
-        pub place-room : before + counted + 1 + taken + back < 2 ^ 64
-        place-room = omega (arith, place-judged .bounded, ids-long hints from to (span .inside), span .few, costs-next (length lits) (length (idsIn hints from to)), costs-few (length lits) (length (idsIn hints from to)) (fit .short) (omega (arith, ids-long hints from to (span .inside), span .few)), fit .short)
+        pub place-judged : length heads < 2 ^ 64 → (all : ℕ) → Counts (before + counted + 1 + back) taken all → JudgesGroup live lits marks tape t q d (idsIn hints from to) before m₃ tape₂ v all
+        place-judged long all together =
+            there-judged live n lits part marks tape t q d (idsIn hints from to) part-found part-long m₁ tape₁ f t₁ passed fell m₂ tape₂ v t₂ taken tried
+            (ready-short heads lits n marks (fit .ready)) (omega (arith, fit .ready .store .room)) (fit .trail) (fit .shows) room before (omega (arith, ids-long hints from to (span .inside))) m₃ back counted undone b c all together
+
+-- The hints up to where the next group begins.
+pub group-span : (hints : List ℕ) (from next : ℕ) → NextGroup hints from next → Span hints from next
+group-span hints from next first = record { forward = first .passed .later; inside = first .group .within }
 
 -- The group that begins at a place of the hints.
-module _ (heads lits : List ℕ) (n : ℕ) (marks hints : List ℕ) (fit : Fit heads lits n marks hints) (at next : ℕ) (one : OneGroup hints at next) where
-  pub one-span : Span hints (at + 1) next
-  one-span = record { forward = one .is-next .passed .later; inside = one .is-next .group .within; few = omega (arith, fit .few, one .is-next .group .within) }
-
+module _ (heads lits : List ℕ) (n : ℕ) (marks hints : List ℕ) (fit : Fit heads lits n marks) (at next : ℕ) (one : OneGroup hints at next) where
   module _ (d passed : ℕ) (p : passed ≡ next - at) (found : Found) (in-store : FoundIn heads n d found) (few : AtMostHalvings n (turnsOf found)) (long : length heads < 2 ^ 64) where
     abbrev now-live : Live
     now-live = liveOf heads lits n
@@ -191,7 +197,7 @@ module _ (heads lits : List ℕ) (n : ℕ) (marks hints : List ℕ) (fit : Fit h
     short-turns = halvings-short n (turnsOf found) few (omega (arith, fit .ready .store .room))
 
     pub one-turns : (turns : ℕ) → turnsOf found ≡ turns → turns + passed < 65 + (next - (at + 1))
-    one-turns turns e = omega (arith, short-turns, one-span .forward)
+    one-turns turns e = omega (arith, short-turns, one .is-next .passed .later)
 
     module _ (tape : List ℕ) (t q : ℕ) (is-d : d ≡ getD hints at 0 / 2) where
       pub one-judged : (turns : ℕ) (marks′ tape′ : List ℕ) (v : Verdict) (turns′ : ℕ) → JudgesGroup now-live lits marks tape t q d (idsIn hints (at + 1) next) (turns + passed) marks′ tape′ v turns′
@@ -212,7 +218,7 @@ module _ (heads lits : List ℕ) (n : ℕ) (marks hints : List ℕ) (fit : Fit h
             laid = laid-none marks tape t room;
             says = λ a s. rw (← is-d) (record { case = group-lacks now-live a (literalOf q) d (idsIn hints (at + 1) next) [] lacks });
             counted = omega arith;
-            bounded = omega (arith, short-turns, ap turnsOf e, ids-long hints (at + 1) next (one-span .inside), costs-least (length lits) (length (idsIn hints (at + 1) next) + 1), one-span .forward);
+            bounded = omega (arith, short-turns, ap turnsOf e, ids-long hints (at + 1) next (one .is-next .group .within), costs-least (length lits) (length (idsIn hints (at + 1) next) + 1), one .is-next .passed .later);
           }
 
 -- The groups one after the other.
@@ -247,7 +253,8 @@ pub record Going (live : Live) (lits hints : List ℕ) (from : ℕ) (marks₀ ta
   pub group : GroupAt hints at
   pub later : from ≤ at
   pub same : (a : Trail) → Shows marks₀ a → groupsFault live a (literalOf q) (groupsFrom hints from) ≡ groupsFault live a (literalOf q) (groupsFrom hints at)
-  pub counted : before + (at - from) ≤ turns
+  pub counted : before ≤ turns
+  pub all : Reaches (before + (at - from)) turns
   pub bounded : turns ≤ before + costs (length lits) (at - from)
 
 pub going-start : (live : Live) (lits hints : List ℕ) (from : ℕ) (marks tape : List ℕ) (t q before : ℕ) → t ≤ length tape → GroupAt hints from → Going live lits hints from marks tape t q before marks tape from before
@@ -258,15 +265,16 @@ going-start live lits hints from marks tape t q before room g = record {
   later = omega arith;
   same = λ a s. refl;
   counted = omega arith;
+  all = record { case = inl (omega arith) };
   bounded = omega arith;
 }
 
 module _ (heads lits : List ℕ) (n : ℕ) (hints : List ℕ) (from : ℕ) (marks₀ tape₀ : List ℕ) (t q before : ℕ) (marks tape : List ℕ) (at turns : ℕ)
-    (k : Going (liveOf heads lits n) lits hints from marks₀ tape₀ t q before marks tape at turns) (fit : Fit heads lits n marks₀ hints) where
+    (k : Going (liveOf heads lits n) lits hints from marks₀ tape₀ t q before marks tape at turns) (fit : Fit heads lits n marks₀) where
   abbrev all-live : Live
   all-live = liveOf heads lits n
 
-  pub going-fit : Fit heads lits n marks hints
+  pub going-fit : Fit heads lits n marks
   going-fit = rw (k .back) fit
 
   pub going-end : length hints ≤ at → JudgesGroups all-live lits hints from marks₀ tape₀ t q before marks tape Accepted turns
@@ -276,13 +284,13 @@ module _ (heads lits : List ℕ) (n : ℕ) (hints : List ℕ) (from : ℕ) (mark
         back = k .back;
         laid = k .laid;
         says = λ a s. record { case = k .same a s ∙ (ap (groupsFault all-live a (literalOf q)) (groups-end hints at h) ∙ groups-none all-live a (literalOf q)) };
-        counted = omega (arith, k .counted);
-        all = λ e. omega (arith, k .counted);
+        counted = k .counted;
+        all = λ e. reaches-less (before + (length hints - from)) (before + (at - from)) turns turns (omega arith) (omega arith) (k .all);
         bounded = omega (arith, k .bounded, costs-more (length lits) (at - from) (length hints - from) (omega arith));
       }
 
   module _ (more : at < length hints) (next : ℕ) (one : NextGroup hints (at + 1) next) (marks′ tape′ : List ℕ) (v : Verdict) (turns′ : ℕ)
-      (j : JudgesGroup all-live lits marks tape t q (getD hints at 0 / 2) (idsIn hints (at + 1) next) (next - at) marks′ tape′ v turns′) where
+      (j : JudgesGroup all-live lits marks tape t q (getD hints at 0 / 2) (idsIn hints (at + 1) next) (next - at) marks′ tape′ v turns′) (sum : ℕ) (together : Counts turns turns′ sum) where
     many : length (idsIn hints (at + 1) next) + 1 ≡ next - at
     many = omega (arith, ids-long hints (at + 1) next (one .group .within), one .passed .later)
 
@@ -293,14 +301,11 @@ module _ (heads lits : List ℕ) (n : ℕ) (hints : List ℕ) (from : ℕ) (mark
     laid-now : Laid marks₀ tape₀ t marks₀ tape′ t
     laid-now = laid-join marks₀ tape₀ t marks₀ tape t marks₀ tape′ t (k .laid) (subst (λ (m : List ℕ). Laid m tape t m tape′ t) (k .back) (j .laid))
 
-    now-bounded : turns + turns′ ≤ before + costs (length lits) (next - from)
+    now-bounded : sum ≤ before + costs (length lits) (next - from)
     now-bounded =
-        omega (arith, k .bounded, j .bounded, ap (costs (length lits)) many, costs-add (length lits) (at - from) (next - at), ap (costs (length lits)) (let sum : (at - from) + (next - at) ≡ next - from = omega (arith, k .later, one .passed .later) in sum))
+        omega (arith, k .bounded, j .bounded, ap (costs (length lits)) many, costs-add (length lits) (at - from) (next - at), ap (costs (length lits)) (let both : (at - from) + (next - at) ≡ next - from = omega (arith, k .later, one .passed .later) in both), together .at-most)
 
-    pub going-room : before + costs (length lits) (length hints - from) < 2 ^ 64 → turns + turns′ < 2 ^ 64
-    going-room small = omega (arith, now-bounded, costs-more (length lits) (next - from) (length hints - from) (omega (arith, one .group .within)))
-
-    pub going-on : (b : Bool) → b ≡ endsAt v → b ≡ false → Going all-live lits hints from marks₀ tape₀ t q before marks′ tape′ next (turns + turns′)
+    pub going-on : (b : Bool) → b ≡ endsAt v → b ≡ false → Going all-live lits hints from marks₀ tape₀ t q before marks′ tape′ next sum
     going-on b e f = record {
       back = j .back ∙ k .back;
       laid = laid-now;
@@ -311,11 +316,14 @@ module _ (heads lits : List ℕ) (n : ℕ) (hints : List ℕ) (from : ℕ) (mark
           ∙ (ap (groupsFault all-live a (literalOf q)) groups-now
           ∙ first-fine all-live a (literalOf q) (getD hints at 0 / 2) (idsIn hints (at + 1) next) (groupsFrom hints next)
           (accepted-none (groupsFault all-live a (literalOf q) ((getD hints at 0 / 2, idsIn hints (at + 1) next) ∷ [])) (length tape) (t + length lits + length (idsIn hints (at + 1) next)) v (sym e ∙ f) (j .says a (rw (k .back) s))));
-      counted = omega (arith, k .counted, j .counted, k .later);
+      counted = omega (arith, k .counted, together .first);
+      all =
+          reaches-less (before + (next - from)) (before + (at - from) + (next - at)) sum sum (omega (arith, k .later, one .passed .later)) (omega arith)
+          (reaches-plus (before + (at - from)) (next - at) turns turns′ sum (k .all) (record { case = inl (j .counted) }) together);
       bounded = now-bounded;
     }
 
-    pub going-stop : (b : Bool) → b ≡ endsAt v → b ≡ true → JudgesGroups all-live lits hints from marks₀ tape₀ t q before marks′ tape′ v (turns + turns′)
+    pub going-stop : (b : Bool) → b ≡ endsAt v → b ≡ true → JudgesGroups all-live lits hints from marks₀ tape₀ t q before marks′ tape′ v sum
     going-stop b e y = record {
       back = j .back ∙ k .back;
       laid = laid-now;
@@ -324,7 +332,7 @@ module _ (heads lits : List ℕ) (n : ℕ) (hints : List ℕ) (from : ℕ) (mark
           (length tape) (t + length lits + length (idsIn hints (at + 1) next)) (length tape₀) (t + length lits + (length hints - from)) v
           (k .same a s ∙ ap (groupsFault all-live a (literalOf q)) groups-now) (k .laid .long) (omega (arith, many, k .later, one .group .within))
           (first-says all-live a (literalOf q) (getD hints at 0 / 2) (idsIn hints (at + 1) next) (groupsFrom hints next) (length tape) (t + length lits + length (idsIn hints (at + 1) next)) v (sym e ∙ y) (j .says a (rw (k .back) s)));
-      counted = omega (arith, k .counted);
+      counted = omega (arith, k .counted, together .first);
       all = λ accepted. absurd (true≢false (sym (sym e ∙ y) ∙ ap endsAt accepted));
       bounded = omega (arith, now-bounded, costs-more (length lits) (next - from) (length hints - from) (omega (arith, one .group .within)));
     }

@@ -8,12 +8,13 @@ use Rattle.meaning.specs.Meaning.{Clause}
 use Rattle.rules.specs.Judging.{Live, opposite, Trail, takeHints, groups, groupEnd, groupsFault, afterHints, hintsFault, additionFault}
 use Rattle.clauses.specs.Codes.{literalOf, hintOf}
 use Rattle.clauses.specs.Store.{idAt}
+use Rattle.clauses.specs.Counting.{Reaches}
 use Rattle.assignment.specs.Marks.{Shows, Laid}
 use Rattle.groups.specs.Matching.{NextGroup, groupsFrom}
-use Rattle.judge.specs.Hints.{Ready, cost, mostHints}
+use Rattle.judge.specs.Hints.{Ready, cost}
 use Rattle.judge.specs.declared.falsifying.Falsity.{Falsity}
 use Rattle.judge.specs.declared.falsifying.Falsity.the-variants.{AllFalse, SomeTrue, TooShort as NoRoom}
-use Rattle.addition.specs.Verdicts.{Says, costs, Clausal, fewLiterals}
+use Rattle.addition.specs.Verdicts.{Says, costs, Clausal}
 use Rattle.addition.specs.declared.Ground.the-variants.{OppositeLiterals}
 use Rattle.addition.specs.declared.Verdict.{Verdict}
 use Rattle.addition.specs.declared.Verdict.the-variants.{Accepted, Refused, TooShort}
@@ -62,7 +63,7 @@ pub record JudgesGroups (live : Live) (lits hints : List ℕ) (from : ℕ) (mark
   pub laid : Laid marks tape t marks tape′ t
   pub says : (a : Trail) → Shows marks a → Says (groupsFault live a (literalOf q) (groupsFrom hints from)) (length tape) (t + length lits + (length hints - from)) verdict
   pub counted : before ≤ turns
-  pub all : verdict ≡ Accepted → before + (length hints - from) ≤ turns
+  pub all : verdict ≡ Accepted → Reaches (before + (length hints - from)) turns
   pub bounded : turns ≤ before + costs (length lits) (length hints - from)
 
 -- Rules 4 and 5
@@ -86,10 +87,8 @@ pub record JudgesHints (live : Live) (n : ℕ) (lits hints : List ℕ) (k : Clau
 -- Behind rule 2
 
 -- What is known there: if all literals of K are false, the marks show just that.
-pub record Begun (heads lits : List ℕ) (n : ℕ) (marks hints : List ℕ) (k : Clause) (falsity : Falsity) : Type 0 where
+pub record Begun (heads lits : List ℕ) (n : ℕ) (marks : List ℕ) (k : Clause) (falsity : Falsity) : Type 0 where
   pub ready : Ready heads lits n marks
-  pub short : length lits ≤ fewLiterals
-  pub few : length hints ≤ mostHints
   pub shows : falsity ≡ AllFalse → Shows marks (map opposite k)
 
 -- The hints are looked at only where K's literals are false.
@@ -111,10 +110,9 @@ pub record JudgesBehind (live : Live) (n : ℕ) (lits hints : List ℕ) (k : Cla
 abbrev pub clauseIn : List ℕ → ℕ → ℕ → Clause
 clauseIn lits used end = map literalOf (slice used end lits)
 
--- What judging asks for: a store, marks for all literals that show nothing, and no more than can be counted.
+-- What judging asks for: a store, marks that show nothing, and a clause with marks for its literals.
 pub record Addable (heads lits : List ℕ) (n used end : ℕ) (marks : List ℕ) : Type 0 where
   pub ready : Ready heads lits n marks
-  pub short : length lits ≤ fewLiterals
   pub shows : Shows marks []
   pub clausal : Clausal lits used end marks
 

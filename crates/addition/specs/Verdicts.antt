@@ -7,7 +7,7 @@ use mathlib.Core.Option.{Option, none, some}
 use lib.ListN.{length, getD}
 use Rattle.rules.specs.Judging.{Ground as Fault, idNotFresh, oppositeLiterals, hintNotLive, hintNotForced, noConflict, groupsDontMatch, Trail}
 use Rattle.assignment.specs.Marks.{Shows}
-use Rattle.judge.specs.Hints.{Ready, mostHints}
+use Rattle.judge.specs.Hints.{Ready}
 use Rattle.judge.specs.declared.hints.How.{How}
 use Rattle.judge.specs.declared.hints.How.the-variants.{Conflict as EndsInConflict, NotLive as EndsNotLive, NotForced as EndsNotForced, Ended, TooShort as EndsTooShort}
 use Rattle.addition.specs.declared.Ground.{Ground}
@@ -61,15 +61,9 @@ endsAt TooShort = true
 unfoldable pub costs : ℕ → ℕ → ℕ
 costs literals codes = codes * (2 * literals + 70)
 
--- So many literals at most, so that the turns can be counted in 64 bits.
-abbrev pub fewLiterals : ℕ
-fewLiterals = 17_179_869_184
-
--- What judging asks for: a store, marks that show some assignment, and no more than can be counted.
-pub record Fit (heads lits : List ℕ) (n : ℕ) (marks hints : List ℕ) : Type 0 where
+-- What judging asks for: a store, and marks that show some assignment.
+pub record Fit (heads lits : List ℕ) (n : ℕ) (marks : List ℕ) : Type 0 where
   pub ready : Ready heads lits n marks
-  pub short : length lits ≤ fewLiterals
-  pub few : length hints ≤ mostHints
   pub trail : Trail
   pub shows : Shows marks trail
 

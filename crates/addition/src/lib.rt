@@ -7,13 +7,13 @@ use judge::falsifying::Falsity;
 use judge::hints::How;
 ghost use mathlib.Core.Path.{_≡_};
 ghost use mathlib.Core.List.{[]};
-ghost use Prim.Native.Nat.{_+_, _-_, _/_, _<_, _≤_, _^_};
+ghost use Prim.Native.Nat.{_+_, _-_, _/_, _<_, _≤_};
 ghost use lib.ListN.{length, getD};
 ghost use Rattle.clauses.specs.Store.{liveOf};
 ghost use Rattle.assignment.specs.Marks.{Shows};
 ghost use Rattle.groups.specs.Matching.{GroupAt, NextGroup};
-ghost use Rattle.judge.specs.Hints.{Ready, Lookable, Span, idsIn, mostHints};
-ghost use Rattle.addition.specs.Verdicts.{verdictBy, endedAt, endsAt, costs, fewLiterals, Fit, Clausal};
+ghost use Rattle.judge.specs.Hints.{Ready, Lookable, Span, idsIn};
+ghost use Rattle.addition.specs.Verdicts.{verdictBy, endedAt, endsAt, Fit, Clausal};
 ghost use Rattle.addition.specs.Addition.{TriesHints, PlaceOf, JudgesGroup, OneGroup, JudgesGroups, JudgesRest, JudgesHints, Begun, JudgesBehind, clauseIn, Addable, JudgesClause, Judges};
 
 // Why an addition is refused, with the id, the hint or the group at fault: the id is not fresh; K holds opposites; a hint is not
@@ -168,7 +168,7 @@ fn judge_there(
     place: usize,
     turns: u64,
 ) -> Judged
-    requires { ⌜ Fit (now heads) (now lits) n (now marks) (now hints) ⌝ }
+    requires { ⌜ Fit (now heads) (now lits) n (now marks) ⌝ }
     requires { ⌜ t ≤ length (now tape) ⌝ }
     requires { ⌜ Span (now hints) from to ⌝ }
     requires { ⌜ PlaceOf (now heads) n d place ⌝ }
@@ -196,7 +196,8 @@ fn judge_there(
     );
     let v = g.verdict;
     let back = assignment::undo(marks, tape, t, g.t);
-    let all = turns + clauses::count(r.passed) + 1 + g.turns + back;
+    let own = turns + clauses::count(r.passed) + 1 + back;
+    let all = clauses::plus(own, g.turns);
     Judged {
         verdict: v,
         turns: all,
@@ -218,7 +219,7 @@ fn judge_group(
     next: usize,
     q: u32,
 ) -> Judged
-    requires { ⌜ Fit (now heads) (now lits) n (now marks) (now hints) ⌝ }
+    requires { ⌜ Fit (now heads) (now lits) n (now marks) ⌝ }
     requires { ⌜ t ≤ length (now tape) ⌝ }
     requires { ⌜ OneGroup (now hints) at next ⌝ }
     ensures { λ r. ⌜ JudgesGroup (liveOf (now (heads .entry)) (now (lits .entry)) n) (now (lits .entry)) (now (marks .entry)) (now (tape .entry)) t q (getD (now (hints .entry)) at 0 / 2) (idsIn (now (hints .entry)) (at + 1) next) (next - at) (now (marks .exit)) (now (tape .exit)) (r .verdict) (r .turns) ⌝ }
@@ -265,10 +266,9 @@ fn judge_groups(
     q: u32,
     before: u64,
 ) -> Judged
-    requires { ⌜ Fit (now heads) (now lits) n (now marks) (now hints) ⌝ }
+    requires { ⌜ Fit (now heads) (now lits) n (now marks) ⌝ }
     requires { ⌜ t ≤ length (now tape) ⌝ }
     requires { ⌜ GroupAt (now hints) from ⌝ }
-    requires { ⌜ before + costs (length (now lits)) (length (now hints) - from) < 2 ^ 64 ⌝ }
     ensures { λ r. ⌜ JudgesGroups (liveOf (now (heads .entry)) (now (lits .entry)) n) (now (lits .entry)) (now (hints .entry)) from (now (marks .entry)) (now (tape .entry)) t q before (now (marks .exit)) (now (tape .exit)) (r .verdict) (r .turns) ⌝ }
 {
     let mut at = from;
@@ -276,7 +276,7 @@ fn judge_groups(
     while at < hints.len() {
         let next = groups::next_group(hints, at + 1);
         let r = judge_group(heads, n, guess, lits, marks, tape, t, hints, at, next, q);
-        turns += r.turns;
+        turns = clauses::plus(turns, r.turns);
         at = next;
         let v = r.verdict;
         if ends(v) {
@@ -307,11 +307,10 @@ fn after_hints(
     end: usize,
     before: u64,
 ) -> Judged
-    requires { ⌜ Fit (now heads) (now lits) n (now marks) (now hints) ⌝ }
+    requires { ⌜ Fit (now heads) (now lits) n (now marks) ⌝ }
     requires { ⌜ t ≤ length (now tape) ⌝ }
     requires { ⌜ NextGroup (now hints) 0 from ⌝ }
     requires { ⌜ Clausal (now lits) used end (now marks) ⌝ }
-    requires { ⌜ before + (n + length (now lits) + length (now hints)) + costs (length (now lits)) (length (now hints) - from) < 2 ^ 64 ⌝ }
     ensures { λ r. ⌜ JudgesRest (liveOf (now (heads .entry)) (now (lits .entry)) n) n (now (lits .entry)) (now (hints .entry)) from (clauseIn (now (lits .entry)) used end) (now (marks .entry)) (now (tape .entry)) t before (now (marks .exit)) (now (tape .exit)) (r .verdict) (r .turns) ⌝ }
 {
     if end <= used {
@@ -334,10 +333,10 @@ fn after_hints(
             hints,
             from,
             q,
-            before + turns,
+            clauses::plus(before, turns),
         ),
         Matched::Differ { id, turns } => {
-            let all = before + turns;
+            let all = clauses::plus(before, turns);
             Judged {
                 verdict: Verdict::Refused(Ground::GroupsDontMatch(id)),
                 turns: all,
@@ -360,17 +359,17 @@ fn judge_hints(
     end: usize,
     before: u64,
 ) -> Tried
-    requires { ⌜ Begun (now heads) (now lits) n (now marks) (now hints) (clauseIn (now lits) used end) Falsity.AllFalse ⌝ }
+    requires { ⌜ Begun (now heads) (now lits) n (now marks) (clauseIn (now lits) used end) Falsity.AllFalse ⌝ }
     requires { ⌜ t ≤ length (now tape) ⌝ }
     requires { ⌜ Clausal (now lits) used end (now marks) ⌝ }
-    requires { ⌜ before + (n + length (now lits) + length (now hints)) + costs (length (now lits)) (length (now hints)) < 2 ^ 64 ⌝ }
     ensures { λ r. ⌜ JudgesHints (liveOf (now (heads .entry)) (now (lits .entry)) n) n (now (lits .entry)) (now (hints .entry)) (clauseIn (now (lits .entry)) used end) (now (marks .entry)) (now (tape .entry)) t before (now (marks .exit)) (now (tape .exit)) (r .verdict) (r .t) (r .turns) ⌝ }
 {
     let from = groups::next_group(hints, 0);
     let r = judge::hints::take_hints(heads, n, guess, lits, marks, tape, t, hints, 0, from);
     let at = r.t;
     let how = r.how;
-    let turns = before + clauses::count(from) + r.turns;
+    let passed = clauses::plus(before, clauses::count(from));
+    let turns = clauses::plus(passed, r.turns);
     if ended(how) {
         let j = after_hints(
             heads,
@@ -416,10 +415,9 @@ fn judge_behind(
     f: Falsity,
     before: u64,
 ) -> Tried
-    requires { ⌜ Begun (now heads) (now lits) n (now marks) (now hints) (clauseIn (now lits) used end) f ⌝ }
+    requires { ⌜ Begun (now heads) (now lits) n (now marks) (clauseIn (now lits) used end) f ⌝ }
     requires { ⌜ t ≤ length (now tape) ⌝ }
     requires { ⌜ Clausal (now lits) used end (now marks) ⌝ }
-    requires { ⌜ before + (n + length (now lits) + length (now hints)) + costs (length (now lits)) (length (now hints)) < 2 ^ 64 ⌝ }
     ensures { λ r. ⌜ JudgesBehind (liveOf (now (heads .entry)) (now (lits .entry)) n) n (now (lits .entry)) (now (hints .entry)) (clauseIn (now (lits .entry)) used end) f (now (marks .entry)) (now (tape .entry)) t before (now (marks .exit)) (now (tape .exit)) (r .verdict) (r .t) (r .turns) ⌝ }
 {
     match f {
@@ -464,7 +462,6 @@ fn judge_clause(
     hints: &[u32],
 ) -> Judged
     requires { ⌜ Addable (now heads) (now lits) n used end (now marks) ⌝ }
-    requires { ⌜ length (now hints) ≤ mostHints ⌝ }
     ensures { λ r. ⌜ JudgesClause (liveOf (now (heads .entry)) (now (lits .entry)) n) n (now (lits .entry)) used end (now (hints .entry)) (now (marks .entry)) (now (tape .entry)) (now (marks .exit)) (now (tape .exit)) (r .verdict) (r .turns) ⌝ }
 {
     let r = judge::falsifying::falsify_clause(marks, tape, 0, &lits[used..end]);
@@ -486,7 +483,7 @@ fn judge_clause(
     );
     let v = g.verdict;
     let back = assignment::undo(marks, tape, 0, g.t);
-    let all = g.turns + back;
+    let all = clauses::plus(g.turns, back);
     Judged {
         verdict: v,
         turns: all,
@@ -510,7 +507,7 @@ pub fn judge_addition(
     id: u64,
 ) -> Judged
     requires { ⌜ Addable (now heads) (now lits) n used end (now marks) ⌝ }
-    requires { ⌜ (many ≤ length (now hints)) × (many ≤ mostHints) ⌝ }
+    requires { ⌜ many ≤ length (now hints) ⌝ }
     ensures { λ r. ⌜ Judges (liveOf (now (heads .entry)) (now (lits .entry)) n) n (now (lits .entry)) used end (now (hints .entry)) many last id (now (marks .entry)) (now (tape .entry)) (now (marks .exit)) (now (tape .exit)) (r .verdict) (r .turns) ⌝ }
 {
     if id <= last {

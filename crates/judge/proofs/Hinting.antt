@@ -72,7 +72,6 @@ module _ (heads lits : List ℕ) (n : ℕ) (marks : List ℕ) (ready : Ready hea
             rw (slice-at lits (startAt heads place) (startAt heads (place + 1)) i short) (ready .known (startAt heads place + i) (omega (arith, below-used)));
       };
       paired = ready .paired;
-      few = ready .few;
     }
       where
         long : length (slice (startAt heads place) (startAt heads (place + 1)) lits) ≡ startAt heads (place + 1) - startAt heads place

@@ -1,6 +1,7 @@
 -- Laws of taking hints: one hint, and the state between two hints. Assumes nothing.
-use Prim.Native.Nat.{ℕ, suc, _+_, _-_, _*_, _^_, _<_, _≤_}
+use Prim.Native.Nat.{ℕ, suc, _+_, _-_, _^_, _<_, _≤_}
 use mathlib.Core.Path.{_≡_, refl, sym, ap, subst, _∙_}
+use mathlib.Core.Logic.{inl}
 use mathlib.Core.Bool.{Bool, true, false, true≢false, false≢true}
 use mathlib.Core.List.{List, [], _∷_, map}
 use mathlib.Core.Option.{none, some}
@@ -13,7 +14,9 @@ use Rattle.rules.specs.Judging.{opposite, Live, find, hintNotLive, hintNotForce
 use Rattle.rules.proofs.Literals.{opposite-twice}
 use Rattle.clauses.specs.Codes.{literalOf, oppositeCode, half}
 use Rattle.clauses.specs.Store.{liveOf}
+use Rattle.clauses.specs.Counting.{Reaches, Counts}
 use Rattle.clauses.proofs.Literals.{literal-opposite}
+use Rattle.clauses.proofs.Counting.{reaches-same, reaches-less, reaches-plus}
 use Rattle.assignment.specs.Marks.{Shows, Laid, Falsifies}
 use Rattle.assignment.proofs.Marking.{laid-none, laid-join, paired-opposite}
 use Rattle.judge.specs.Hints.{Ready, SeenForcing, HintCase, Hints, Forcible, ForceCase, ForcesOne, ForcedBy, EffectCase, TakesOne, idsIn, stopsAt, howBy, Span, cost, SaysCase, LeastCase, PassedCase, Takes}
@@ -144,13 +147,14 @@ module _ (live : Live) (marks tape : List ℕ) (t h literals : ℕ) (marks′ : 
   stop-says NotForced f y = take-neither live a h hs (f .0 .clause) (f .0 .found) (f .0 .says a s)
   stop-says TooShort f y = tt
 
-  stop-least : (before turns least : ℕ) → least ≤ before + cost 0 live a (h ∷ hs) → suc (before + literals) ≤ turns → (e : Effect) → EffectCase live marks tape t h literals marks′ t′ e → stopsAt e ≡ true
+  -- The hints cost no more than this one.
+  stop-least : (turns least : ℕ) → (cost 0 live a (h ∷ hs) ≤ suc literals → Reaches least turns) → (e : Effect) → EffectCase live marks tape t h literals marks′ t′ e → stopsAt e ≡ true
       → LeastCase least turns (howBy e h)
-  stop-least before turns least l u Forced f y = absurd (false≢true y)
-  stop-least before turns least l u Conflict f y = omega (arith, cost-conflict live a h hs (f .0 .clause) (f .0 .found) 0 (f .0 .says a s), f .0 .many)
-  stop-least before turns least l u NoLive f y = omega (arith, cost-not-live live a h hs 0 (f .0))
-  stop-least before turns least l u NotForced f y = omega (arith, cost-neither live a h hs (f .0 .clause) (f .0 .found) 0 (f .0 .says a s), f .0 .many)
-  stop-least before turns least l u TooShort f y = tt
+  stop-least turns least r Forced f y = absurd (false≢true y)
+  stop-least turns least r Conflict f y = r (omega (arith, cost-conflict live a h hs (f .0 .clause) (f .0 .found) 0 (f .0 .says a s), f .0 .many))
+  stop-least turns least r NoLive f y = r (omega (arith, cost-not-live live a h hs 0 (f .0)))
+  stop-least turns least r NotForced f y = r (omega (arith, cost-neither live a h hs (f .0 .clause) (f .0 .found) 0 (f .0 .says a s), f .0 .many))
+  stop-least turns least r TooShort f y = tt
 
   -- Each hint costs at least its search and its literals.
   cost-at-least : (b : ℕ) (e : Effect) → EffectCase live marks tape t h literals marks′ t′ e → suc (b + literals) ≤ cost b live a (h ∷ hs)
@@ -193,19 +197,14 @@ pub record Left (live : Live) (n : ℕ) (hints : List ℕ) (from to : ℕ) (a : 
   pub now : Trail
   pub shows : Shows marks now
   pub same : takeHints live a (idsIn hints from to) ≡ takeHints live now (idsIn hints i to)
-  pub least : cost 0 live a (idsIn hints from to) ≤ turns + cost 0 live now (idsIn hints i to)
+  pub least : Reaches (cost 0 live a (idsIn hints from to) - cost 0 live now (idsIn hints i to)) turns
   pub most : (b : ℕ) → n ≤ 2 ^ b → turns + cost b live now (idsIn hints i to) ≤ cost b live a (idsIn hints from to)
-
--- No hint takes more turns: one for itself, 64 at most for the search, one for each literal of its clause.
-abbrev mostTurns : ℕ
-mostTurns = 68_719_476_801
 
 pub record Taking (live : Live) (n : ℕ) (hints : List ℕ) (from to : ℕ) (marks₀ tape₀ : List ℕ) (t₀ : ℕ) (marks tape : List ℕ) (i t turns : ℕ) : Type 0 where
   pub laid : Laid marks₀ tape₀ t₀ marks tape t
   pub moved : t + from ≡ t₀ + i
   pub later : from ≤ i
   pub within : i ≤ to
-  pub bounded : turns ≤ (i - from) * mostTurns
   pub left : (a : Trail) → Shows marks₀ a → Left live n hints from to a marks i turns
 
 pub taking-start : (live : Live) (n : ℕ) (hints : List ℕ) (from to : ℕ) (marks tape : List ℕ) (t : ℕ) → t ≤ length tape → Span hints from to
@@ -215,8 +214,7 @@ taking-start live n hints from to marks tape t room span = record {
   moved = omega arith;
   later = omega arith;
   within = span .forward;
-  bounded = omega arith;
-  left = λ a s. record { now = a; shows = s; same = refl; least = omega arith; most = λ b h. omega arith };
+  left = λ a s. record { now = a; shows = s; same = refl; least = record { case = inl (omega arith) }; most = λ b h. omega arith };
 }
 
 -- As many marks, so the store can still be looked at.
@@ -227,7 +225,6 @@ ready-again heads lits n marks marks′ r e = record {
   store = r .store;
   known = λ i l. rw e (r .known i l);
   paired = record { even = rw e (r .paired .even); small = rw e (r .paired .small) };
-  few = r .few;
 }
 
 module _ (heads lits : List ℕ) (n : ℕ) (hints : List ℕ) (from to : ℕ) (marks₀ tape₀ : List ℕ) (t₀ : ℕ) (marks tape : List ℕ) (i t turns : ℕ)
@@ -249,24 +246,21 @@ module _ (heads lits : List ℕ) (n : ℕ) (hints : List ℕ) (from to : ℕ) (m
             let l = k .left a s in
             record {
               says = record { trail = l .now; is = l .same ∙ ap (takeHints live (l .now)) none; shows = l .shows };
-              least = omega (arith, l .least, ap (cost 0 live (l .now)) none);
+              least = reaches-less (cost 0 live a (idsIn hints from to)) (cost 0 live a (idsIn hints from to) - cost 0 live (l .now) (idsIn hints i to)) turns turns (omega (arith, ap (cost 0 live (l .now)) none)) (omega arith) (l .least);
               most = λ b m. omega (arith, l .most b m);
             };
       }
 
   module _ (more : i < to) (id : ℕ) (is-id : id ≡ half (getD hints i 0)) (marks′ tape′ : List ℕ) (effect : Effect) (t′ turns′ : ℕ)
-      (one : TakesOne heads lits n marks tape t id marks′ tape′ effect t′ turns′) where
+      (one : TakesOne heads lits n marks tape t id marks′ tape′ effect t′ turns′) (sum : ℕ) (together : Counts turns turns′ sum) where
     ids : idsIn hints i to ≡ id ∷ idsIn hints (i + 1) to
     ids = rw is-id (ids-cons hints to (span .inside) i more)
 
-    turns-few : turns′ ≤ mostTurns
-    turns-few = omega (arith, one .counted, one .short, one .few, ready .few)
-
-    pub taking-turns : turns + turns′ < 2 ^ 64
-    taking-turns = omega (arith, k .bounded, turns-few, span .few, k .later, more)
-
-    least-now : (a : Trail) → (l : Left live n hints from to a marks i turns) → cost 0 live a (idsIn hints from to) ≤ turns + cost 0 live (l .now) (id ∷ idsIn hints (i + 1) to)
-    least-now a l = omega (arith, l .least, ap (cost 0 live (l .now)) ids)
+    -- The turns before this hint and its own reach together what they make up of all.
+    least-now : (a : Trail) → (l : Left live n hints from to a marks i turns) → (least : ℕ) → least ≤ cost 0 live a (idsIn hints from to) - cost 0 live (l .now) (id ∷ idsIn hints (i + 1) to) + turns′ → Reaches least sum
+    least-now a l least h =
+        reaches-less least (cost 0 live a (idsIn hints from to) - cost 0 live (l .now) (idsIn hints i to) + turns′) sum sum (omega (arith, ap (cost 0 live (l .now)) ids)) (omega arith)
+        (reaches-plus (cost 0 live a (idsIn hints from to) - cost 0 live (l .now) (idsIn hints i to)) turns′ turns turns′ sum (l .least) (reaches-same turns′) together)
 
     most-now : (a : Trail) → (l : Left live n hints from to a marks i turns) → (b : ℕ) → n ≤ 2 ^ b → turns + cost b live (l .now) (id ∷ idsIn hints (i + 1) to) ≤ cost b live a (idsIn hints from to)
     most-now a l b m = omega (arith, l .most b m, ap (cost b live (l .now)) ids)
@@ -278,7 +272,7 @@ module _ (heads lits : List ℕ) (n : ℕ) (hints : List ℕ) (from to : ℕ) (m
     laid-both = laid-join marks₀ tape₀ t₀ marks tape t marks′ tape′ t′ (k .laid) (one .laid)
 
     -- The last hint.
-    stopped : stopsAt effect ≡ true → Takes live n (idsIn hints from to) marks₀ tape₀ t₀ marks′ tape′ (howBy effect id) t′ (turns + turns′)
+    stopped : stopsAt effect ≡ true → Takes live n (idsIn hints from to) marks₀ tape₀ t₀ marks′ tape′ (howBy effect id) t′ sum
     stopped y = record {
       laid = laid-both;
       passed = rw (← k .laid .long) (stop-passed live marks tape t id (one .literals) marks′ t′ t₀ (length (idsIn hints from to)) (omega (arith, ids-long hints to (span .inside) from, k .moved, k .later)) effect (one .case) y);
@@ -286,12 +280,12 @@ module _ (heads lits : List ℕ) (n : ℕ) (hints : List ℕ) (from to : ℕ) (m
           let l = k .left a s in
           record {
             says = rw (same-now a l) (stop-says live marks tape t id (one .literals) marks′ t′ (l .now) (l .shows) (idsIn hints (i + 1) to) effect (one .case) y);
-            least = stop-least live marks tape t id (one .literals) marks′ t′ (l .now) (l .shows) (idsIn hints (i + 1) to) turns (turns + turns′) (cost 0 live a (idsIn hints from to)) (least-now a l) (omega (arith, one .counted)) effect (one .case) y;
-            most = λ b m. omega (arith, most-now a l b m, cost-at-least live marks tape t id (one .literals) marks′ t′ (l .now) (l .shows) (idsIn hints (i + 1) to) b effect (one .case), halvings-below n (one .search) b (one .halvings) m, one .counted);
+            least = stop-least live marks tape t id (one .literals) marks′ t′ (l .now) (l .shows) (idsIn hints (i + 1) to) sum (cost 0 live a (idsIn hints from to)) (λ few. least-now a l (cost 0 live a (idsIn hints from to)) (omega (arith, few, one .counted))) effect (one .case) y;
+            most = λ b m. omega (arith, most-now a l b m, cost-at-least live marks tape t id (one .literals) marks′ t′ (l .now) (l .shows) (idsIn hints (i + 1) to) b effect (one .case), halvings-below n (one .search) b (one .halvings) m, one .counted, together .at-most);
           };
     }
 
-    pub taking-stop : (b : Bool) → b ≡ stopsAt effect → b ≡ true → (how : How) → how ≡ howBy effect id → Takes live n (idsIn hints from to) marks₀ tape₀ t₀ marks′ tape′ how t′ (turns + turns′)
+    pub taking-stop : (b : Bool) → b ≡ stopsAt effect → b ≡ true → (how : How) → how ≡ howBy effect id → Takes live n (idsIn hints from to) marks₀ tape₀ t₀ marks′ tape′ how t′ sum
     taking-stop b stops true-there how q =
         let y : stopsAt effect ≡ true = sym stops ∙ true-there in
         rw q (stopped y)
@@ -304,7 +298,7 @@ module _ (heads lits : List ℕ) (n : ℕ) (hints : List ℕ) (from to : ℕ) (m
     went-on NotForced f n = absurd (true≢false n)
     went-on TooShort f n = absurd (true≢false n)
 
-    pub taking-on : (b : Bool) → b ≡ stopsAt effect → b ≡ false → Taking live n hints from to marks₀ tape₀ t₀ marks′ tape′ (i + 1) t′ (turns + turns′)
+    pub taking-on : (b : Bool) → b ≡ stopsAt effect → b ≡ false → Taking live n hints from to marks₀ tape₀ t₀ marks′ tape′ (i + 1) t′ sum
     taking-on b stops false-there =
         let f = went-on effect (one .case) (sym stops ∙ false-there) in
         let seen = f .seen .seen in
@@ -313,7 +307,6 @@ module _ (heads lits : List ℕ) (n : ℕ) (hints : List ℕ) (from to : ℕ) (m
           moved = omega (arith, k .moved, f .made .next);
           later = omega (arith, k .later);
           within = omega arith;
-          bounded = omega (arith, k .bounded, turns-few, k .later);
           left = λ a s.
               let l = k .left a s in
               let look = seen .says (l .now) (l .shows) in
@@ -321,7 +314,9 @@ module _ (heads lits : List ℕ) (n : ℕ) (hints : List ℕ) (from to : ℕ) (m
                 now = literalOf (f .code) ∷ l .now;
                 shows = f .made .shows (l .now) (l .shows);
                 same = same-now a l ∙ take-forces live (l .now) id (idsIn hints (i + 1) to) (seen .clause) (seen .found) (literalOf (f .code)) look;
-                least = omega (arith, least-now a l, cost-forces live (l .now) id (idsIn hints (i + 1) to) (seen .clause) (seen .found) 0 (literalOf (f .code)) look, seen .many, one .counted);
-                most = λ b h. omega (arith, most-now a l b h, cost-forces live (l .now) id (idsIn hints (i + 1) to) (seen .clause) (seen .found) b (literalOf (f .code)) look, seen .many, one .counted, halvings-below n (one .search) b (one .halvings) h);
+                least =
+                    least-now a l (cost 0 live a (idsIn hints from to) - cost 0 live (literalOf (f .code) ∷ l .now) (idsIn hints (i + 1) to))
+                    (omega (arith, cost-forces live (l .now) id (idsIn hints (i + 1) to) (seen .clause) (seen .found) 0 (literalOf (f .code)) look, seen .many, one .counted));
+                most = λ b h. omega (arith, most-now a l b h, cost-forces live (l .now) id (idsIn hints (i + 1) to) (seen .clause) (seen .found) b (literalOf (f .code)) look, seen .many, one .counted, halvings-below n (one .search) b (one .halvings) h, together .at-most);
               };
         }

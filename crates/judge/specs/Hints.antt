@@ -11,6 +11,7 @@ use Rattle.rules.specs.Judging.{Live, find, hintNotLive, hintNotForced, Trail, 
 use Rattle.clauses.specs.Codes.{literalOf, oppositeCode, half}
 use Rattle.clauses.specs.Store.{startAt, liveOf, Store}
 use Rattle.clauses.specs.Finding.{AtMostHalvings}
+use Rattle.clauses.specs.Counting.{Reaches}
 use Rattle.assignment.specs.Marks.{Shows, Paired, Marked, Laid}
 use Rattle.assignment.specs.Sight.{Looks}
 use Rattle.assignment.specs.declared.Look.{Look as Sight}
@@ -22,13 +23,6 @@ use Rattle.judge.specs.declared.hints.Effect.the-variants.{Forced, Confl
 use Rattle.judge.specs.declared.hints.How.{How}
 use Rattle.judge.specs.declared.hints.How.the-variants.{Conflict as EndsInConflict, NotLive as EndsNotLive, NotForced as EndsNotForced, Ended, TooShort as EndsTooShort}
 
--- So many literals and hints at most, so that the turns can be counted in 64 bits.
-abbrev pub mostLiterals : ℕ
-mostLiterals = 68_719_476_736
-
-abbrev pub mostHints : ℕ
-mostHints = 134_217_728
-
 -- A store of n clauses, and marks for each literal in it and for its opposite.
 pub record Ready (heads lits : List ℕ) (n : ℕ) (marks : List ℕ) : Type 0 where
   pub used : ℕ
@@ -36,7 +30,6 @@ pub record Ready (heads lits : List ℕ) (n : ℕ) (marks : List ℕ) : Type 0 w
   pub store : Store heads lits n used last
   pub known : (i : ℕ) → i < used → getD lits i 0 < length marks
   pub paired : Paired marks
-  pub few : length lits ≤ mostLiterals
 
 -- What a look at a live clause shows.
 abbrev pub shownOf : Sight → Shown
@@ -51,7 +44,6 @@ pub record Lookable (heads lits marks : List ℕ) (place : ℕ) : Type 0 where
   pub inside : startAt heads (place + 1) ≤ length lits
   pub known : Marked (slice (startAt heads place) (startAt heads (place + 1)) lits) marks
   pub paired : Paired marks
-  pub few : length lits ≤ mostLiterals
 
 -- A look at the clause at a place, one turn for each literal.
 pub record LooksAt (heads lits marks : List ℕ) (place before : ℕ) (shown : Shown) (turns : ℕ) : Type 0 where
@@ -171,11 +163,10 @@ howBy NoLive id = EndsNotLive id
 howBy NotForced id = EndsNotForced id
 howBy TooShort id = EndsTooShort
 
--- The hints from `from` up to `to` are there, and no more than can be counted.
+-- The hints from `from` up to `to` are there.
 pub record Span (hints : List ℕ) (from to : ℕ) : Type 0 where
   pub forward : from ≤ to
   pub inside : to ≤ length hints
-  pub few : to - from ≤ mostHints
 
 -- The turns that taking the hints costs, if each search costs b: one for each hint that is taken, b, and one for each literal
 -- of its clause.
@@ -202,12 +193,12 @@ SaysCase r marks (EndsNotForced h) = r ≡ badHint (hintNotForced h)
 SaysCase r marks Ended = Ends r marks
 SaysCase r marks EndsTooShort = Unit {0}
 
--- As many turns were made at least, unless there was no room on the tape.
+-- As many turns were counted at least, as far as can be counted, unless there was no room on the tape.
 abbrev pub LeastCase : ℕ → ℕ → How → Type 0
-LeastCase least turns EndsInConflict = least ≤ turns
-LeastCase least turns (EndsNotLive h) = least ≤ turns
-LeastCase least turns (EndsNotForced h) = least ≤ turns
-LeastCase least turns Ended = least ≤ turns
+LeastCase least turns EndsInConflict = Reaches least turns
+LeastCase least turns (EndsNotLive h) = Reaches least turns
+LeastCase least turns (EndsNotForced h) = Reaches least turns
+LeastCase least turns Ended = Reaches least turns
 LeastCase least turns EndsTooShort = Unit {0}
 
 -- How many numbers went to the tape: one for each hint but the last, and where the hints ended one for that too.

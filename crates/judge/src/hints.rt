@@ -212,7 +212,7 @@ pub fn take_hints(
     while i < to {
         let id = clauses::half(hints[i]);
         let r = take_one(heads, n, guess, lits, marks, tape, at, id);
-        turns += r.turns;
+        turns = clauses::plus(turns, r.turns);
         at = r.t;
         let e = r.effect;
         if stops(e) {

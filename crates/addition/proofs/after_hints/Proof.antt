@@ -1,13 +1,13 @@
 -- `after_hints` meets its contract: K is empty, or its groups are not those that they must be, or they are judged. Assumes
 -- nothing.
 use native.Mathlib.Omega.{arith}
-use Rattle.addition.proofs.Adding.{rest-empty, rest-known, rest-turns, rest-all, rest-few, rest-differ}
+use Rattle.addition.proofs.Adding.{rest-empty, rest-known, rest-all, rest-differ}
 use borrow.Author.Needs.{needs}
 use Rattle.addition.proofs.after_hints.Statement.{statement}
 use Rattle.addition.proofs.after_hints.Tie as tie
 
 returns : tie.Need-returns
-returns c = rest-empty _ _ _ _ _ (c .before .before .before .before .before .before .before .pre .0) _ (c .before .before .before .before .before .before .before .pre .1 .1 .0) _ _ (c .before .before .before .before .before .before .before .pre .1 .1 .1 .0) _ _ _ (c .before .before .before .before .before .before .before .pre .1 .0) (omega (arith, c .if1 .taken))
+returns c = rest-empty _ _ _ _ _ (c .before .before .before .before .before .before .before .pre .0) _ (c .before .before .before .before .before .before .before .pre .1 .1 .0) _ _ (c .before .before .before .before .before .before .before .pre .1 .1 .1) _ _ _ (c .before .before .before .before .before .before .before .pre .1 .0) (omega (arith, c .if1 .taken))
 
 mul-opposite : tie.Need-mul-opposite
 mul-opposite c = search needs
@@ -16,7 +16,7 @@ shared-slice-read-opposite : tie.Need-shared-slice-read-opposite
 shared-slice-read-opposite c = search needs
 
 opposite-requires : tie.Need-opposite-requires
-opposite-requires c κs = rest-known _ _ _ _ _ (c .before .before .before .before .before .before .before .before .pre .0) _ (c .before .before .before .before .before .before .before .before .pre .1 .1 .0) _ _ (c .before .before .before .before .before .before .before .before .pre .1 .1 .1 .0) 0 (omega (arith, c .before .if1 .left))
+opposite-requires c κs = rest-known _ _ _ _ _ (c .before .before .before .before .before .before .before .before .pre .0) _ (c .before .before .before .before .before .before .before .before .pre .1 .1 .0) _ _ (c .before .before .before .before .before .before .before .before .pre .1 .1 .1) 0 (omega (arith, c .before .if1 .left))
 
 match-groups-requires : tie.Need-match-groups-requires
 match-groups-requires c κs = search needs
@@ -24,23 +24,17 @@ match-groups-requires c κs = search needs
 enum-known-m : tie.Need-enum-known-m
 enum-known-m c = search needs
 
-add-judge-groups : tie.Need-add-judge-groups
-add-judge-groups c =
-    let few = rest-turns _ _ _ _ _ (c .before .before .before .before .before .before .before .before .before .before .before .before .before .before .before .pre .0) _ (c .before .before .before .before .before .before .before .before .before .before .before .before .before .before .before .pre .1 .1 .0) _ _ (c .before .before .before .before .before .before .before .before .before .before .before .before .before .before .before .pre .1 .1 .1 .0) 0 (omega (arith, c .before .before .before .before .before .before .before .before .if1 .left)) _ (c .before .before .before .before .before .before .opposite .ensures) _ (c .before .before .before .before .before .match-groups .ensures) _ (c .before .before .before .m .given .1) in
-    omega (arith, few, c .before .before .before .before .before .before .before .before .before .before .before .before .before .before .before .pre .1 .1 .1 .1)
+plus-requires : tie.Need-plus-requires
+plus-requires c κs = search needs
 
 judge-groups-requires : tie.Need-judge-groups-requires
-judge-groups-requires c κs =
-    let few = rest-turns _ _ _ _ _ (c .before .before .before .before .before .before .before .before .before .before .before .before .before .before .before .pre .0) _ (c .before .before .before .before .before .before .before .before .before .before .before .before .before .before .before .pre .1 .1 .0) _ _ (c .before .before .before .before .before .before .before .before .before .before .before .before .before .before .before .pre .1 .1 .1 .0) 0 (omega (arith, c .before .before .before .before .before .before .before .before .if1 .left)) _ (c .before .before .before .before .before .before .opposite .ensures) _ (c .before .before .before .before .before .match-groups .ensures) _ (c .before .before .before .m .given .1) in
-    (c .before .before .before .before .before .before .before .before .before .before .before .before .before .before .before .pre .0, (c .before .before .before .before .before .before .before .before .before .before .before .before .before .before .before .pre .1 .0, (c .before .before .before .before .before .before .before .before .before .before .before .before .before .before .before .pre .1 .1 .0 .group, omega (arith, few, c .before .before .before .before .before .before .before .before .before .before .before .before .before .before .before .pre .1 .1 .1 .1))))
+judge-groups-requires c κs = (c .before .before .before .before .before .before .before .before .before .before .before .before .before .before .before .before .pre .0, (c .before .before .before .before .before .before .before .before .before .before .before .before .before .before .before .before .pre .1 .0, c .before .before .before .before .before .before .before .before .before .before .before .before .before .before .before .before .pre .1 .1 .0 .group))
 
 enum-known-m-2 : tie.Need-enum-known-m-2
 enum-known-m-2 c = search needs
 
-add-all : tie.Need-add-all
-add-all c =
-    let few = rest-few _ _ _ _ _ (c .before .before .before .before .before .before .before .before .before .before .before .before .before .pre .0) _ (c .before .before .before .before .before .before .before .before .before .before .before .before .before .pre .1 .1 .0) _ _ (c .before .before .before .before .before .before .before .before .before .before .before .before .before .pre .1 .1 .1 .0) 0 (omega (arith, c .before .before .before .before .before .before .if1 .left)) _ (c .before .before .before .before .opposite .ensures) _ (c .before .before .before .match-groups .ensures) _ _ (c .before .m2 .given .1) in
-    omega (arith, few, c .before .before .before .before .before .before .before .before .before .before .before .before .before .pre .1 .1 .1 .1)
+plus-requires-2 : tie.Need-plus-requires-2
+plus-requires-2 c κs = search needs
 
 same-length : tie.Need-same-length
 same-length c = search needs
@@ -49,10 +43,10 @@ same-length-2 : tie.Need-same-length-2
 same-length-2 c = search needs
 
 returns-2 : tie.Need-returns-2
-returns-2 c = rest-all _ _ _ _ _ (c .before .before .before .before .before .before .before .before .before .before .before .before .before .before .before .before .before .before .before .before .pre .0) _ (c .before .before .before .before .before .before .before .before .before .before .before .before .before .before .before .before .before .before .before .before .pre .1 .1 .0) _ _ (c .before .before .before .before .before .before .before .before .before .before .before .before .before .before .before .before .before .before .before .before .pre .1 .1 .1 .0) _ (omega (arith, c .before .before .before .before .before .before .before .before .before .before .before .before .before .if1 .left)) _ (c .before .before .before .before .before .before .before .before .before .before .before .opposite .ensures) _ (c .before .before .before .before .before .before .before .before .before .before .match-groups .ensures) _ (c .before .before .before .before .before .before .before .before .m .given .1) _ _ _ _ _ _ (c .before .before .before .before .judge-groups .ensures)
+returns-2 c = rest-all _ _ _ _ _ (c .before .before .before .before .before .before .before .before .before .before .before .before .before .before .before .before .before .before .before .before .before .pre .0) _ (c .before .before .before .before .before .before .before .before .before .before .before .before .before .before .before .before .before .before .before .before .before .pre .1 .1 .0) _ _ (c .before .before .before .before .before .before .before .before .before .before .before .before .before .before .before .before .before .before .before .before .before .pre .1 .1 .1) _ (omega (arith, c .before .before .before .before .before .before .before .before .before .before .before .before .before .before .if1 .left)) _ (c .before .before .before .before .before .before .before .before .before .before .before .before .opposite .ensures) _ (c .before .before .before .before .before .before .before .before .before .before .before .match-groups .ensures) _ (c .before .before .before .before .before .before .before .before .before .m .given .1) _ (c .before .before .before .before .before .plus .ensures) _ _ _ _ _ _ (c .before .before .before .before .judge-groups .ensures)
 
 returns-3 : tie.Need-returns-3
-returns-3 c = rest-differ _ _ _ _ _ (c .before .before .before .before .before .before .before .before .before .before .before .before .before .pre .0) _ (c .before .before .before .before .before .before .before .before .before .before .before .before .before .pre .1 .1 .0) _ _ (c .before .before .before .before .before .before .before .before .before .before .before .before .before .pre .1 .1 .1 .0) _ (omega (arith, c .before .before .before .before .before .before .if1 .left)) _ (c .before .before .before .before .opposite .ensures) _ (c .before .before .before .match-groups .ensures) _ _ (c .before .m2 .given .1) _ _ (c .before .before .before .before .before .before .before .before .before .before .before .before .before .pre .1 .0)
+returns-3 c = rest-differ _ _ _ _ _ (c .before .before .before .before .before .before .before .before .before .before .before .before .before .before .pre .0) _ (c .before .before .before .before .before .before .before .before .before .before .before .before .before .before .pre .1 .1 .0) _ _ (c .before .before .before .before .before .before .before .before .before .before .before .before .before .before .pre .1 .1 .1) _ (omega (arith, c .before .before .before .before .before .before .before .if1 .left)) _ (c .before .before .before .before .before .opposite .ensures) _ (c .before .before .before .before .match-groups .ensures) _ _ (c .before .before .m2 .given .1) _ (c .plus2 .ensures) _ _ (c .before .before .before .before .before .before .before .before .before .before .before .before .before .before .pre .1 .0)
 
 pub after-hints-spec : {M : Type 1} → statement M
 after-hints-spec =
@@ -64,10 +58,10 @@ after-hints-spec =
     opposite-requires
     match-groups-requires
     enum-known-m
-    add-judge-groups
+    plus-requires
     judge-groups-requires
     enum-known-m-2
-    add-all
+    plus-requires-2
     same-length
     same-length-2
     returns-2

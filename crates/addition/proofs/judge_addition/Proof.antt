@@ -11,10 +11,10 @@ returns : tie.Need-returns
 returns c = addition-stale _ _ _ _ _ _ _ _ _ _ _ (omega (arith, c .if1 .taken))
 
 slice-aggregate-judge-clause : tie.Need-slice-aggregate-judge-clause
-slice-aggregate-judge-clause c = sym (length-take-le (c .before .before .before .before .before .before .before .before .before .before .args .many) (c .before .before .before .before .before .before .before .before .before .before .args .hints .now) (c .before .before .before .before .before .before .before .before .before .before .pre .1 .0))
+slice-aggregate-judge-clause c = sym (length-take-le (c .before .before .before .before .before .before .before .before .before .before .args .many) (c .before .before .before .before .before .before .before .before .before .before .args .hints .now) (c .before .before .before .before .before .before .before .before .before .before .pre .1))
 
 judge-clause-requires : tie.Need-judge-clause-requires
-judge-clause-requires c κs = (c .before .before .before .before .before .before .before .before .before .before .pre .0, omega (arith, length-take-le (c .before .before .before .before .before .before .before .before .before .before .args .many) (c .before .before .before .before .before .before .before .before .before .before .args .hints .now) (c .before .before .before .before .before .before .before .before .before .before .pre .1 .0), c .before .before .before .before .before .before .before .before .before .before .pre .1 .1))
+judge-clause-requires c κs = c .before .before .before .before .before .before .before .before .before .before .pre .0
 
 same-length : tie.Need-same-length
 same-length c = search needs
@@ -23,7 +23,7 @@ same-length-2 : tie.Need-same-length-2
 same-length-2 c = search needs
 
 returns-2 : tie.Need-returns-2
-returns-2 c = addition-fresh _ _ _ _ _ _ _ _ _ _ _ (omega (arith, c .before .before .before .before .before .before .before .before .if1 .left)) (c .before .before .before .before .before .before .before .before .before .before .before .before .before .before .before .pre .1 .0) _ _ _ _ (c .before .before .before .before .judge-clause .ensures)
+returns-2 c = addition-fresh _ _ _ _ _ _ _ _ _ _ _ (omega (arith, c .before .before .before .before .before .before .before .before .if1 .left)) (c .before .before .before .before .before .before .before .before .before .before .before .before .before .before .before .pre .1) _ _ _ _ (c .before .before .before .before .judge-clause .ensures)
 
 pub judge-addition-spec : {M : Type 1} → statement M
 judge-addition-spec =

@@ -1,6 +1,6 @@
 -- `judge_clause` meets its contract: what was marked stands on the tape, and is taken back. Assumes nothing.
 use native.Mathlib.Omega.{arith}
-use Rattle.addition.proofs.Adding.{clause-known, clause-begun, clause-clausal, clause-room, clause-turns, clause-undoable, clause-judged, clause-all}
+use Rattle.addition.proofs.Adding.{clause-known, clause-begun, clause-clausal, clause-room, clause-undoable, clause-judged}
 use borrow.Author.Needs.{needs}
 use Rattle.addition.proofs.judge_clause.Statement.{statement}
 use Rattle.addition.proofs.judge_clause.Tie as tie
@@ -18,26 +18,24 @@ part-falsify-clause-end : tie.Need-part-falsify-clause-end
 part-falsify-clause-end c = search needs
 
 falsify-clause-requires : tie.Need-falsify-clause-requires
-falsify-clause-requires c κs = (c .before .before .before .before .before .before .before .before .before .pre .0 .ready .paired, (clause-known _ _ _ _ _ _ (c .before .before .before .before .before .before .before .before .before .pre .0), omega arith))
+falsify-clause-requires c κs = (c .before .before .before .before .before .before .before .before .before .pre .ready .paired, (clause-known _ _ _ _ _ _ (c .before .before .before .before .before .before .before .before .before .pre), omega arith))
 
 count-requires : tie.Need-count-requires
 count-requires c κs = search needs
 
 add-before : tie.Need-add-before
 add-before c =
-    let few = clause-room _ _ _ _ _ _ (c .before .before .before .before .before .before .before .before .before .before .before .before .before .before .before .pre .0) _ _ _ _ _ _ (c .before .before .before .before .before .falsify-clause .ensures) _ (c .count .ensures) in
+    let few = clause-room _ _ _ _ _ _ (c .before .before .before .before .before .before .before .before .before .before .before .before .before .before .before .pre) _ _ _ _ _ _ (c .before .before .before .before .before .falsify-clause .ensures) _ (c .count .ensures) (c .before .before .before .before .before .before .before .before .before .before .before .before .before .before .before .good .1 .1 .1 .0 .1) in
     omega (arith, few)
 
 judge-behind-requires : tie.Need-judge-behind-requires
-judge-behind-requires c κs = (clause-begun _ _ _ _ _ _ (c .before .before .before .before .before .before .before .before .before .before .before .before .before .before .before .before .before .pre .0) _ _ _ _ _ _ (c .before .before .before .before .before .before .before .falsify-clause .ensures) _ (c .before .before .before .before .before .before .before .before .before .before .before .before .before .before .before .before .before .pre .1), (c .before .before .before .before .before .before .before .falsify-clause .ensures .laid .room, (clause-clausal _ _ _ _ _ _ (c .before .before .before .before .before .before .before .before .before .before .before .before .before .before .before .before .before .pre .0) _ _ _ _ _ _ (c .before .before .before .before .before .before .before .falsify-clause .ensures), clause-turns _ _ _ _ _ _ (c .before .before .before .before .before .before .before .before .before .before .before .before .before .before .before .before .before .pre .0) _ _ _ _ _ _ (c .before .before .before .before .before .before .before .falsify-clause .ensures) _ (c .before .before .count .ensures) (c .before .before .before .before .before .before .before .before .before .before .before .before .before .before .before .before .before .args .hints .now) (c .before .before .before .before .before .before .before .before .before .before .before .before .before .before .before .before .before .pre .1) (omega (arith, c .before .before .before .before .before .before .before .before .before .before .before .before .before .before .before .before .before .fits, c .before .before .before .before .before .before .before .before .before .before .before .before .before .before .before .before .before .good)))))
+judge-behind-requires c κs = (clause-begun _ _ _ _ _ _ (c .before .before .before .before .before .before .before .before .before .before .before .before .before .before .before .before .before .pre) _ _ _ _ _ _ (c .before .before .before .before .before .before .before .falsify-clause .ensures), (c .before .before .before .before .before .before .before .falsify-clause .ensures .laid .room, clause-clausal _ _ _ _ _ _ (c .before .before .before .before .before .before .before .before .before .before .before .before .before .before .before .before .before .pre) _ _ _ _ _ _ (c .before .before .before .before .before .before .before .falsify-clause .ensures)))
 
 undo-requires : tie.Need-undo-requires
-undo-requires c κs = clause-undoable _ _ _ _ _ _ (c .before .before .before .before .before .before .before .before .before .before .before .before .before .before .before .before .before .before .before .before .before .before .before .before .pre .0) _ _ _ _ _ _ (c .before .before .before .before .before .before .before .before .before .before .before .before .before .before .falsify-clause .ensures) _ (c .before .before .before .before .before .before .before .before .before .count .ensures) _ (c .before .before .before .before .before .before .before .before .before .before .before .before .before .before .before .before .before .before .before .before .before .before .before .before .pre .1) _ _ _ _ _ (c .before .before .before .before .before .before .judge-behind .ensures)
+undo-requires c κs = clause-undoable _ _ _ _ _ _ (c .before .before .before .before .before .before .before .before .before .before .before .before .before .before .before .before .before .before .before .before .before .before .before .before .pre) _ _ _ _ _ _ (c .before .before .before .before .before .before .before .before .before .before .before .before .before .before .falsify-clause .ensures) _ (c .before .before .before .before .before .before .before .before .before .count .ensures) _ _ _ _ _ _ (c .before .before .before .before .before .before .judge-behind .ensures)
 
-add-all : tie.Need-add-all
-add-all c =
-    let few = clause-all _ _ _ _ _ _ (c .before .before .before .before .before .before .before .before .before .before .before .before .before .before .before .before .before .before .before .before .before .before .before .before .before .before .before .before .pre .0) _ _ _ _ _ _ (c .before .before .before .before .before .before .before .before .before .before .before .before .before .before .before .before .before .before .falsify-clause .ensures) _ (c .before .before .before .before .before .before .before .before .before .before .before .before .before .count .ensures) _ (c .before .before .before .before .before .before .before .before .before .before .before .before .before .before .before .before .before .before .before .before .before .before .before .before .before .before .before .before .pre .1) _ _ _ _ _ (c .before .before .before .before .before .before .before .before .before .before .judge-behind .ensures) _ _ (c .before .before .before .undo .ensures .0) (c .before .before .before .undo .ensures .1) (omega (arith, c .before .before .before .before .before .before .before .before .before .before .before .before .before .before .before .before .before .before .before .before .before .before .before .before .before .before .before .before .fits, c .before .before .before .before .before .before .before .before .before .before .before .before .before .before .before .before .before .before .before .before .before .before .before .before .before .before .before .before .good)) in
-    omega (arith, few)
+plus-requires : tie.Need-plus-requires
+plus-requires c κs = search needs
 
 same-length : tie.Need-same-length
 same-length c = search needs
@@ -46,7 +44,7 @@ same-length-2 : tie.Need-same-length-2
 same-length-2 c = search needs
 
 returns : tie.Need-returns
-returns c = clause-judged _ _ _ _ _ _ (c .before .before .before .before .before .before .before .before .before .before .before .before .before .before .before .before .before .before .before .before .before .before .before .before .before .before .before .before .pre .0) _ _ _ _ _ _ (c .before .before .before .before .before .before .before .before .before .before .before .before .before .before .before .before .before .before .falsify-clause .ensures) _ (c .before .before .before .before .before .before .before .before .before .before .before .before .before .count .ensures) _ (c .before .before .before .before .before .before .before .before .before .before .before .before .before .before .before .before .before .before .before .before .before .before .before .before .before .before .before .before .pre .1) _ _ _ _ _ (c .before .before .before .before .before .before .before .before .before .before .judge-behind .ensures) _ _ (c .before .before .before .undo .ensures .0) (c .before .before .before .undo .ensures .1)
+returns c = clause-judged _ _ _ _ _ _ (c .before .before .before .before .before .before .before .before .before .before .before .before .before .before .before .before .before .before .before .before .before .before .before .before .before .before .before .before .pre) _ _ _ _ _ _ (c .before .before .before .before .before .before .before .before .before .before .before .before .before .before .before .before .before .before .falsify-clause .ensures) _ (c .before .before .before .before .before .before .before .before .before .before .before .before .before .count .ensures) _ _ _ _ _ _ (c .before .before .before .before .before .before .before .before .before .before .judge-behind .ensures) _ _ (c .before .before .before .undo .ensures .0) (c .before .before .before .undo .ensures .1) _ (c .plus .ensures)
 
 pub judge-clause-spec : {M : Type 1} → statement M
 judge-clause-spec =
@@ -61,7 +59,7 @@ judge-clause-spec =
     add-before
     judge-behind-requires
     undo-requires
-    add-all
+    plus-requires
     same-length
     same-length-2
     returns)

@@ -4,7 +4,7 @@ use mathlib.Core.Path.{ap}
 use native.Mathlib.Omega.{arith}
 use Rattle.clauses.specs.Finding.{turnsOf}
 use Rattle.judge.proofs.Hinting.{ready-lookable}
-use Rattle.addition.proofs.Grouping.{one-span, one-placed, one-turns, one-judged, one-lacks}
+use Rattle.addition.proofs.Grouping.{group-span, one-placed, one-turns, one-judged, one-lacks}
 use borrow.Author.Needs.{needs}
 use Rattle.addition.proofs.judge_group.Statement.{statement}
 use Rattle.addition.proofs.judge_group.Tie as tie
@@ -39,7 +39,7 @@ add-judge-there c =
     omega (arith, few, c .before .before .before .before .before .before .before .before .before .before .before .before .before .before .before .pre .1 .1 .is-next .group .within)
 
 judge-there-requires : tie.Need-judge-there-requires
-judge-there-requires c κs = (c .before .before .before .before .before .before .before .before .before .before .before .before .before .before .before .pre .0, (c .before .before .before .before .before .before .before .before .before .before .before .before .before .before .before .pre .1 .0, (one-span _ _ _ _ _ (c .before .before .before .before .before .before .before .before .before .before .before .before .before .before .before .pre .0) _ _ (c .before .before .before .before .before .before .before .before .before .before .before .before .before .before .before .pre .1 .1), (one-placed _ _ _ _ _ (c .before .before .before .before .before .before .before .before .before .before .before .before .before .before .before .pre .0) _ _ (c .before .before .before .before .before .before .before .before .before .before .before .before .before .before .before .pre .1 .1) _ _ (c .before .before .before .before .before .before .count .ensures) (c .before .before .before .before .before .lookup .result) (c .before .before .before .before .before .lookup .ensures .0) (c .before .before .before .before .before .lookup .ensures .1) (omega (arith, c .before .before .before .before .before .before .before .before .before .before .before .before .before .before .before .fits, c .before .before .before .before .before .before .before .before .before .before .before .before .before .before .before .good)) _ _ (c .before .before .before .found .given .1), (ready-lookable _ _ _ _ (c .before .before .before .before .before .before .before .before .before .before .before .before .before .before .before .pre .0 .ready) _ (one-placed _ _ _ _ _ (c .before .before .before .before .before .before .before .before .before .before .before .before .before .before .before .pre .0) _ _ (c .before .before .before .before .before .before .before .before .before .before .before .before .before .before .before .pre .1 .1) _ _ (c .before .before .before .before .before .before .count .ensures) (c .before .before .before .before .before .lookup .result) (c .before .before .before .before .before .lookup .ensures .0) (c .before .before .before .before .before .lookup .ensures .1) (omega (arith, c .before .before .before .before .before .before .before .before .before .before .before .before .before .before .before .fits, c .before .before .before .before .before .before .before .before .before .before .before .before .before .before .before .good)) _ _ (c .before .before .before .found .given .1) .inside), one-turns _ _ _ _ _ (c .before .before .before .before .before .before .before .before .before .before .before .before .before .before .before .pre .0) _ _ (c .before .before .before .before .before .before .before .before .before .before .before .before .before .before .before .pre .1 .1) _ _ (c .before .before .before .before .before .before .count .ensures) (c .before .before .before .before .before .lookup .result) (c .before .before .before .before .before .lookup .ensures .0) (c .before .before .before .before .before .lookup .ensures .1) (omega (arith, c .before .before .before .before .before .before .before .before .before .before .before .before .before .before .before .fits, c .before .before .before .before .before .before .before .before .before .before .before .before .before .before .before .good)) _ (ap turnsOf (c .before .before .before .found .given .1)))))))
+judge-there-requires c κs = (c .before .before .before .before .before .before .before .before .before .before .before .before .before .before .before .pre .0, (c .before .before .before .before .before .before .before .before .before .before .before .before .before .before .before .pre .1 .0, (group-span _ _ _ (c .before .before .before .before .before .before .before .before .before .before .before .before .before .before .before .pre .1 .1 .is-next), (one-placed _ _ _ _ _ (c .before .before .before .before .before .before .before .before .before .before .before .before .before .before .before .pre .0) _ _ (c .before .before .before .before .before .before .before .before .before .before .before .before .before .before .before .pre .1 .1) _ _ (c .before .before .before .before .before .before .count .ensures) (c .before .before .before .before .before .lookup .result) (c .before .before .before .before .before .lookup .ensures .0) (c .before .before .before .before .before .lookup .ensures .1) (omega (arith, c .before .before .before .before .before .before .before .before .before .before .before .before .before .before .before .fits, c .before .before .before .before .before .before .before .before .before .before .before .before .before .before .before .good)) _ _ (c .before .before .before .found .given .1), (ready-lookable _ _ _ _ (c .before .before .before .before .before .before .before .before .before .before .before .before .before .before .before .pre .0 .ready) _ (one-placed _ _ _ _ _ (c .before .before .before .before .before .before .before .before .before .before .before .before .before .before .before .pre .0) _ _ (c .before .before .before .before .before .before .before .before .before .before .before .before .before .before .before .pre .1 .1) _ _ (c .before .before .before .before .before .before .count .ensures) (c .before .before .before .before .before .lookup .result) (c .before .before .before .before .before .lookup .ensures .0) (c .before .before .before .before .before .lookup .ensures .1) (omega (arith, c .before .before .before .before .before .before .before .before .before .before .before .before .before .before .before .fits, c .before .before .before .before .before .before .before .before .before .before .before .before .before .before .before .good)) _ _ (c .before .before .before .found .given .1) .inside), one-turns _ _ _ _ _ (c .before .before .before .before .before .before .before .before .before .before .before .before .before .before .before .pre .0) _ _ (c .before .before .before .before .before .before .before .before .before .before .before .before .before .before .before .pre .1 .1) _ _ (c .before .before .before .before .before .before .count .ensures) (c .before .before .before .before .before .lookup .result) (c .before .before .before .before .before .lookup .ensures .0) (c .before .before .before .before .before .lookup .ensures .1) (omega (arith, c .before .before .before .before .before .before .before .before .before .before .before .before .before .before .before .fits, c .before .before .before .before .before .before .before .before .before .before .before .before .before .before .before .good)) _ (ap turnsOf (c .before .before .before .found .given .1)))))))
 
 enum-known-found-2 : tie.Need-enum-known-found-2
 enum-known-found-2 c = search needs

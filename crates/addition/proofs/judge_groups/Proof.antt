@@ -5,7 +5,7 @@ use mathlib.Core.Path.{_∙_, ap}
 use native.Mathlib.Omega.{arith}
 use lib.ListN.{length}
 use Rattle.clauses.specs.Store.{liveOf}
-use Rattle.addition.proofs.Grouping.{Going, going-start, going-fit, going-room, going-on, going-stop, going-end}
+use Rattle.addition.proofs.Grouping.{Going, going-start, going-fit, going-on, going-stop, going-end}
 use borrow.Author.Needs.{needs}
 use Rattle.addition.proofs.judge_groups.Statement.{statement}
 use Rattle.addition.proofs.judge_groups.Tie as tie
@@ -17,7 +17,7 @@ abbrev μ-loop : tie.MeasureT-loop
 μ-loop heads n guess lits marks₀ tape₀ t hints from q before at₀ turns₀ marks tape at turns = length hints - at
 
 loop-holds : tie.Need-loop-holds Inv-loop μ-loop
-loop-holds c = going-start _ _ _ _ _ _ _ _ _ (c .before .before .before .before .before .before .pre .1 .0) (c .before .before .before .before .before .before .pre .1 .1 .0)
+loop-holds c = going-start _ _ _ _ _ _ _ _ _ (c .before .before .before .before .before .before .pre .1 .0) (c .before .before .before .before .before .before .pre .1 .1)
 
 add-next-group : tie.Need-add-next-group Inv-loop μ-loop
 add-next-group c = search needs
@@ -28,10 +28,8 @@ next-group-requires c κs = search needs
 judge-group-requires : tie.Need-judge-group-requires Inv-loop μ-loop
 judge-group-requires c κs = (going-fit _ _ _ _ _ _ _ _ _ _ _ _ _ _ (c .before .before .before .before .loop .inv) (c .before .before .before .before .before .before .before .before .before .before .before .pre .0), (c .before .before .before .before .loop .inv .laid .room, record { more = c .before .before .before .loop-test .taken; is-next = c .before .before .next-group .ensures }))
 
-add-turns : tie.Need-add-turns Inv-loop μ-loop
-add-turns c =
-    let few = going-room _ _ _ _ _ _ _ _ _ _ _ _ _ _ (c .before .before .before .before .before .before .before .before .before .before .loop .inv) (c .before .before .before .before .before .before .before .before .before .before .before .before .before .before .before .before .before .pre .0) (c .before .before .before .before .before .before .before .before .before .loop-test .taken) _ (c .before .before .before .before .before .before .before .before .next-group .ensures) _ _ _ _ (c .before .before .before .before .before .judge-group .ensures) (c .before .before .before .before .before .before .before .before .before .before .before .before .before .before .before .before .before .pre .1 .1 .1) in
-    omega (arith, few)
+plus-requires : tie.Need-plus-requires Inv-loop μ-loop
+plus-requires c κs = search needs
 
 ends-requires : tie.Need-ends-requires Inv-loop μ-loop
 ends-requires c κs = search needs
@@ -43,13 +41,13 @@ same-length-2 : tie.Need-same-length-2 Inv-loop μ-loop
 same-length-2 c = c .before .before .before .before .before .before .before .judge-group .ensures .laid .long ∙ c .before .before .before .before .before .before .before .before .before .before .before .before .loop .inv .laid .long
 
 returns : tie.Need-returns Inv-loop μ-loop
-returns c = going-stop _ _ _ _ _ _ _ _ _ _ _ _ _ _ (c .before .before .before .before .before .before .before .before .before .before .before .before .loop .inv) (c .before .before .before .before .before .before .before .before .before .before .before .before .before .before .before .before .before .before .before .pre .0) (c .before .before .before .before .before .before .before .before .before .before .before .loop-test .taken) _ (c .before .before .before .before .before .before .before .before .before .before .next-group .ensures) _ _ _ _ (c .before .before .before .before .before .before .before .judge-group .ensures) _ (c .before .ends .ensures) (c .if1 .taken)
+returns c = going-stop _ _ _ _ _ _ _ _ _ _ _ _ _ _ (c .before .before .before .before .before .before .before .before .before .before .before .before .loop .inv) (c .before .before .before .before .before .before .before .before .before .before .before .before .before .before .before .before .before .before .before .pre .0) (c .before .before .before .before .before .before .before .before .before .before .before .loop-test .taken) _ (c .before .before .before .before .before .before .before .before .before .before .next-group .ensures) _ _ _ _ (c .before .before .before .before .before .before .before .judge-group .ensures) _ (c .before .before .plus .ensures) _ (c .before .ends .ensures) (c .if1 .taken)
 
 loop-less : tie.Need-loop-less Inv-loop μ-loop
 loop-less c = omega (arith, c .before .before .before .before .before .before .before .before .before .before .before .loop-test .taken, c .before .before .before .before .before .before .before .before .before .before .next-group .ensures .passed .later, c .before .before .before .before .before .before .before .before .before .before .next-group .ensures .group .within)
 
 loop-again : tie.Need-loop-again Inv-loop μ-loop
-loop-again c = going-on _ _ _ _ _ _ _ _ _ _ _ _ _ _ (c .before .before .before .before .before .before .before .before .before .before .before .before .loop .inv) (c .before .before .before .before .before .before .before .before .before .before .before .before .before .before .before .before .before .before .before .pre .0) (c .before .before .before .before .before .before .before .before .before .before .before .loop-test .taken) _ (c .before .before .before .before .before .before .before .before .before .before .next-group .ensures) _ _ _ _ (c .before .before .before .before .before .before .before .judge-group .ensures) _ (c .before .ends .ensures) (c .if1 .left)
+loop-again c = going-on _ _ _ _ _ _ _ _ _ _ _ _ _ _ (c .before .before .before .before .before .before .before .before .before .before .before .before .loop .inv) (c .before .before .before .before .before .before .before .before .before .before .before .before .before .before .before .before .before .before .before .pre .0) (c .before .before .before .before .before .before .before .before .before .before .before .loop-test .taken) _ (c .before .before .before .before .before .before .before .before .before .before .next-group .ensures) _ _ _ _ (c .before .before .before .before .before .before .before .judge-group .ensures) _ (c .before .before .plus .ensures) _ (c .before .ends .ensures) (c .if1 .left)
 
 same-length-3 : tie.Need-same-length-3 Inv-loop μ-loop
 same-length-3 c = ap length (c .before .loop .inv .back)
@@ -70,7 +68,7 @@ judge-groups-spec =
     add-next-group
     next-group-requires
     judge-group-requires
-    add-turns
+    plus-requires
     ends-requires
     same-length
     same-length-2

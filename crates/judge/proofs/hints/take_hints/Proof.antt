@@ -4,7 +4,7 @@ use Prim.Native.Nat.{_-_}
 use mathlib.Core.Path.{_∙_}
 use native.Mathlib.Omega.{arith}
 use Rattle.clauses.specs.Store.{liveOf}
-use Rattle.judge.proofs.Taking.{Taking, taking-start, taking-ready, taking-turns, taking-stop, taking-on, taking-end}
+use Rattle.judge.proofs.Taking.{Taking, taking-start, taking-ready, taking-stop, taking-on, taking-end}
 use borrow.Author.Needs.{needs}
 use Rattle.judge.proofs.hints.take_hints.Statement.{statement}
 use Rattle.judge.proofs.hints.take_hints.Tie as tie
@@ -30,10 +30,8 @@ half-requires c κs = search needs
 take-one-requires : tie.Need-take-one-requires Inv-loop μ-loop
 take-one-requires c κs = (taking-ready _ _ _ _ _ _ _ _ _ _ _ _ _ _ (c .before .before .before .before .before .loop .inv) (c .before .before .before .before .before .before .before .before .before .before .before .before .pre .0) (c .before .before .before .before .before .before .before .before .before .before .before .before .pre .1 .1), (c .before .before .before .before .before .loop .inv .laid .room, c .before .before .half .ensures .1))
 
-add-turns : tie.Need-add-turns Inv-loop μ-loop
-add-turns c =
-    let few = taking-turns _ _ _ _ _ _ _ _ _ _ _ _ _ _ (c .before .before .before .before .before .before .before .before .before .before .before .loop .inv) (c .before .before .before .before .before .before .before .before .before .before .before .before .before .before .before .before .before .before .pre .0) (c .before .before .before .before .before .before .before .before .before .before .before .before .before .before .before .before .before .before .pre .1 .1) (c .before .before .before .before .before .before .before .before .before .before .loop-test .taken) _ (c .before .before .before .before .before .before .before .before .half .ensures .0) _ _ _ _ _ (c .before .before .before .before .before .take-one .ensures) in
-    omega (arith, few)
+plus-requires : tie.Need-plus-requires Inv-loop μ-loop
+plus-requires c κs = search needs
 
 stops-requires : tie.Need-stops-requires Inv-loop μ-loop
 stops-requires c κs = search needs
@@ -48,7 +46,7 @@ same-length-2 : tie.Need-same-length-2 Inv-loop μ-loop
 same-length-2 c = c .before .before .before .before .before .before .before .before .take-one .ensures .laid .long ∙ c .before .before .before .before .before .before .before .before .before .before .before .before .before .before .loop .inv .laid .long
 
 returns : tie.Need-returns Inv-loop μ-loop
-returns c = taking-stop _ _ _ _ _ _ _ _ _ _ _ _ _ _ (c .before .before .before .before .before .before .before .before .before .before .before .before .before .before .loop .inv) (c .before .before .before .before .before .before .before .before .before .before .before .before .before .before .before .before .before .before .before .before .before .pre .0) (c .before .before .before .before .before .before .before .before .before .before .before .before .before .before .before .before .before .before .before .before .before .pre .1 .1) (c .before .before .before .before .before .before .before .before .before .before .before .before .before .loop-test .taken) _ (c .before .before .before .before .before .before .before .before .before .before .before .half .ensures .0) _ _ _ _ _ (c .before .before .before .before .before .before .before .before .take-one .ensures) _ (c .before .before .stops .ensures) (c .before .if1 .taken) _ (c .how-by .ensures)
+returns c = taking-stop _ _ _ _ _ _ _ _ _ _ _ _ _ _ (c .before .before .before .before .before .before .before .before .before .before .before .before .before .before .loop .inv) (c .before .before .before .before .before .before .before .before .before .before .before .before .before .before .before .before .before .before .before .before .before .pre .0) (c .before .before .before .before .before .before .before .before .before .before .before .before .before .before .before .before .before .before .before .before .before .pre .1 .1) (c .before .before .before .before .before .before .before .before .before .before .before .before .before .loop-test .taken) _ (c .before .before .before .before .before .before .before .before .before .before .before .half .ensures .0) _ _ _ _ _ (c .before .before .before .before .before .before .before .before .take-one .ensures) _ (c .before .before .before .plus .ensures) _ (c .before .before .stops .ensures) (c .before .if1 .taken) _ (c .how-by .ensures)
 
 add-i : tie.Need-add-i Inv-loop μ-loop
 add-i c = search needs
@@ -57,7 +55,7 @@ loop-less : tie.Need-loop-less Inv-loop μ-loop
 loop-less c = omega (arith, c .before .before .before .before .before .before .before .before .before .before .before .before .loop-test .taken)
 
 loop-again : tie.Need-loop-again Inv-loop μ-loop
-loop-again c = taking-on _ _ _ _ _ _ _ _ _ _ _ _ _ _ (c .before .before .before .before .before .before .before .before .before .before .before .before .before .loop .inv) (c .before .before .before .before .before .before .before .before .before .before .before .before .before .before .before .before .before .before .before .before .pre .0) (c .before .before .before .before .before .before .before .before .before .before .before .before .before .before .before .before .before .before .before .before .pre .1 .1) (c .before .before .before .before .before .before .before .before .before .before .before .before .loop-test .taken) _ (c .before .before .before .before .before .before .before .before .before .before .half .ensures .0) _ _ _ _ _ (c .before .before .before .before .before .before .before .take-one .ensures) _ (c .before .stops .ensures) (c .if1 .left)
+loop-again c = taking-on _ _ _ _ _ _ _ _ _ _ _ _ _ _ (c .before .before .before .before .before .before .before .before .before .before .before .before .before .loop .inv) (c .before .before .before .before .before .before .before .before .before .before .before .before .before .before .before .before .before .before .before .before .pre .0) (c .before .before .before .before .before .before .before .before .before .before .before .before .before .before .before .before .before .before .before .before .pre .1 .1) (c .before .before .before .before .before .before .before .before .before .before .before .before .loop-test .taken) _ (c .before .before .before .before .before .before .before .before .before .before .half .ensures .0) _ _ _ _ _ (c .before .before .before .before .before .before .before .take-one .ensures) _ (c .before .before .plus .ensures) _ (c .before .stops .ensures) (c .if1 .left)
 
 same-length-3 : tie.Need-same-length-3 Inv-loop μ-loop
 same-length-3 c = c .before .loop .inv .laid .differ .long
@@ -79,7 +77,7 @@ take-hints-spec =
     shared-slice-read-half
     half-requires
     take-one-requires
-    add-turns
+    plus-requires
     stops-requires
     how-by-requires
     same-length
