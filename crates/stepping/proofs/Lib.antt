@@ -2,3 +2,4 @@
 pub mod Spending
 pub mod Adding
 pub mod Lessening
+pub mod Taking

@@ -1,168 +1,130 @@
+-- `take_step` meets its contract: the step is read, and by what was read it is judged. Assumes nothing.
+use native.Mathlib.Omega.{arith}
+use Rattle.stepping.proofs.Taking.{addition-later, addition-addable, addition-taken, deletion-later, deletion-tight, deletion-few, deletion-taken, nothing-taken, stopped-forward, stopped-fits, bad-stopped, bad-taken, short-stopped, short-taken}
 use borrow.Author.Needs.{needs}
 use Rattle.stepping.proofs.take_step.Statement.{statement}
 use Rattle.stepping.proofs.take_step.Tie as tie
-use Rattle.stepping.proofs.take_step.Reads as reads
-use Rattle.stepping.proofs.take_step.Lts as lts
 use Rattle.stepping.proofs.stop.Reads as stop-reads
 use Rattle.stepping.proofs.take_addition.Reads as take-addition-reads
 use Rattle.stepping.proofs.take_deletion.Reads as take-deletion-reads
 use Rattle.steps.proofs.read_step.Reads as read-step-reads
 
--- src/lib.rt:339:17
 sub-bytes : tie.Need-sub-bytes
 sub-bytes c = search needs
 
--- src/lib.rt:340:9
 read-step-requires : tie.Need-read-step-requires
 read-step-requires c κs = search needs
 
--- src/lib.rt:343:13
 enum-known-r : tie.Need-enum-known-r
 enum-known-r c = search needs
 
--- src/lib.rt:360:17
 sub-take-addition : tie.Need-sub-take-addition
-sub-take-addition c = ?
+sub-take-addition c = omega (arith, addition-later _ _ _ _ _ _ _ (c .before .before .before .before .before .before .before .before .before .before .before .before .before .before .before .before .before .before .before .before .before .before .before .args .tape .now) (c .before .before .before .before .before .before .before .before .before .before .before .before .before .before .before .before .before .before .before .before .before .before .before .pre .0) _ _ _ (c .before .before .before .before .before .before .before .before .before .before .before .before .before .read-step .ensures) _ _ _ _ (c .before .before .before .before .before .before .before .r .given .1))
 
--- src/lib.rt:348:13
 take-addition-requires : tie.Need-take-addition-requires
-take-addition-requires c κs = ?
+take-addition-requires c κs = addition-addable _ _ _ _ _ _ _ (c .before .before .before .before .before .before .before .before .before .before .before .before .before .before .before .before .before .before .before .before .before .before .before .args .tape .now) (c .before .before .before .before .before .before .before .before .before .before .before .before .before .before .before .before .before .before .before .before .before .before .before .pre .0) _ _ _ (c .before .before .before .before .before .before .before .before .before .before .before .before .before .read-step .ensures) _ _ _ _ (c .before .before .before .before .before .before .before .r .given .1)
 
--- src/lib.rt:363:30
 enum-known-r-2 : tie.Need-enum-known-r-2
 enum-known-r-2 c = search needs
 
--- src/lib.rt:364:69
 sub-take-deletion : tie.Need-sub-take-deletion
-sub-take-deletion c = ?
+sub-take-deletion c = omega (arith, deletion-later _ _ _ _ _ _ _ (c .before .before .before .before .before .before .before .before .before .before .before .before .before .before .before .before .before .before .before .before .before .args .tape .now) (c .before .before .before .before .before .before .before .before .before .before .before .before .before .before .before .before .before .before .before .before .before .pre .0) _ _ _ (c .before .before .before .before .before .before .before .before .before .before .before .read-step .ensures) _ _ (c .before .before .before .before .before .r2 .given .1))
 
--- src/lib.rt:364:13
 take-deletion-requires : tie.Need-take-deletion-requires
-take-deletion-requires c κs = ?
+take-deletion-requires c κs = (deletion-tight _ _ _ _ _ _ _ (c .before .before .before .before .before .before .before .before .before .before .before .before .before .before .before .before .before .before .before .before .before .args .tape .now) (c .before .before .before .before .before .before .before .before .before .before .before .before .before .before .before .before .before .before .before .before .before .pre .0) _ _ _ (c .before .before .before .before .before .before .before .before .before .before .before .read-step .ensures) _ _ (c .before .before .before .before .before .r2 .given .1), deletion-few _ _ _ _ _ _ _ (c .before .before .before .before .before .before .before .before .before .before .before .before .before .before .before .before .before .before .before .before .before .args .tape .now) (c .before .before .before .before .before .before .before .before .before .before .before .before .before .before .before .before .before .before .before .before .before .pre .0) _ _ _ (c .before .before .before .before .before .before .before .before .before .before .before .read-step .ensures) _ _ (c .before .before .before .before .before .r2 .given .1))
 
--- src/lib.rt:366:29
 enum-known-r-3 : tie.Need-enum-known-r-3
 enum-known-r-3 c = search needs
 
--- src/lib.rt:366:39
 stop-requires : tie.Need-stop-requires
 stop-requires c κs = search needs
 
--- src/lib.rt:368:17
 enum-known-r-4 : tie.Need-enum-known-r-4
 enum-known-r-4 c = search needs
 
--- src/lib.rt:371:55
 sub-stop : tie.Need-sub-stop
-sub-stop c = ?
+sub-stop c = stopped-forward _ _ _ _ _ _ _ (c .before .before .before .before .before .before .before .before .before .before .before .before .before .before .before .before .before .args .tape .now) (c .before .before .before .before .before .before .before .before .before .before .before .before .before .before .before .before .before .pre .0) _ _ _ (c .before .before .before .before .before .before .before .read-step .ensures) _ _ _ (bad-stopped _ _ _ _ _ _ _ (c .before .before .before .before .before .before .before .before .before .before .before .before .before .before .before .before .before .args .tape .now) (c .before .before .before .before .before .before .before .before .before .before .before .before .before .before .before .before .before .pre .0) _ _ _ (c .before .before .before .before .before .before .before .read-step .ensures) _ _ _ (c .before .r4 .given .1))
 
--- src/lib.rt:371:54
 add-stop : tie.Need-add-stop
-add-stop c = ?
+add-stop c = record { fits = stopped-fits _ _ _ _ _ _ _ (c .before .before .before .before .before .before .before .before .before .before .before .before .before .before .before .before .before .args .tape .now) (c .before .before .before .before .before .before .before .before .before .before .before .before .before .before .before .before .before .pre .0) _ _ _ (c .before .before .before .before .before .before .before .read-step .ensures) _ _ _ (bad-stopped _ _ _ _ _ _ _ (c .before .before .before .before .before .before .before .before .before .before .before .before .before .before .before .before .before .args .tape .now) (c .before .before .before .before .before .before .before .before .before .before .before .before .before .before .before .before .before .pre .0) _ _ _ (c .before .before .before .before .before .before .before .read-step .ensures) _ _ _ (c .before .r4 .given .1)) (c .before .before .before .before .before .before .before .before .before .before .before .before .before .before .before .before .before .good .1 .1 .1 .1 .0 .1) (c .before .before .before .before .before .before .before .before .before .before .before .before .before .before .before .before .before .good .1 .1 .1 .1 .1 .0 .1) }
 
--- src/lib.rt:371:14
 stop-requires-2 : tie.Need-stop-requires-2
 stop-requires-2 c κs = search needs
 
--- src/lib.rt:373:17
 enum-known-r-5 : tie.Need-enum-known-r-5
 enum-known-r-5 c = search needs
 
--- src/lib.rt:376:53
 sub-stop-2 : tie.Need-sub-stop-2
-sub-stop-2 c = ?
+sub-stop-2 c = stopped-forward _ _ _ _ _ _ _ (c .before .before .before .before .before .before .before .before .before .before .before .before .before .before .before .before .before .args .tape .now) (c .before .before .before .before .before .before .before .before .before .before .before .before .before .before .before .before .before .pre .0) _ _ _ (c .before .before .before .before .before .before .before .read-step .ensures) _ _ _ (short-stopped _ _ _ _ _ _ _ (c .before .before .before .before .before .before .before .before .before .before .before .before .before .before .before .before .before .args .tape .now) (c .before .before .before .before .before .before .before .before .before .before .before .before .before .before .before .before .before .pre .0) _ _ _ (c .before .before .before .before .before .before .before .read-step .ensures) _ _ _ (c .before .r5 .given .1))
 
--- src/lib.rt:376:52
 add-stop-2 : tie.Need-add-stop-2
-add-stop-2 c = ?
+add-stop-2 c = record { fits = stopped-fits _ _ _ _ _ _ _ (c .before .before .before .before .before .before .before .before .before .before .before .before .before .before .before .before .before .args .tape .now) (c .before .before .before .before .before .before .before .before .before .before .before .before .before .before .before .before .before .pre .0) _ _ _ (c .before .before .before .before .before .before .before .read-step .ensures) _ _ _ (short-stopped _ _ _ _ _ _ _ (c .before .before .before .before .before .before .before .before .before .before .before .before .before .before .before .before .before .args .tape .now) (c .before .before .before .before .before .before .before .before .before .before .before .before .before .before .before .before .before .pre .0) _ _ _ (c .before .before .before .before .before .before .before .read-step .ensures) _ _ _ (c .before .r5 .given .1)) (c .before .before .before .before .before .before .before .before .before .before .before .before .before .before .before .before .before .good .1 .1 .1 .1 .0 .1) (c .before .before .before .before .before .before .before .before .before .before .before .before .before .before .before .before .before .good .1 .1 .1 .1 .1 .0 .1) }
 
--- src/lib.rt:376:14
 stop-requires-3 : tie.Need-stop-requires-3
 stop-requires-3 c κs = search needs
 
--- src/lib.rt:322:1
 same-length : tie.Need-same-length
 same-length c = search needs
 
--- src/lib.rt:322:1
 same-length-2 : tie.Need-same-length-2
 same-length-2 c = search needs
 
--- src/lib.rt:322:1
 same-length-3 : tie.Need-same-length-3
 same-length-3 c = search needs
 
--- src/lib.rt:322:1
 same-length-4 : tie.Need-same-length-4
 same-length-4 c = search needs
 
--- src/lib.rt:322:1
 same-length-5 : tie.Need-same-length-5
 same-length-5 c = search needs
 
--- src/lib.rt:322:1
 same-length-6 : tie.Need-same-length-6
 same-length-6 c = search needs
 
--- src/lib.rt:322:1
 returns : tie.Need-returns
-returns c = ?
+returns c = addition-taken _ _ _ _ _ _ _ _ (c .before .before .before .before .before .before .before .before .before .before .before .before .before .before .before .before .before .before .before .before .before .before .before .before .before .before .before .before .before .before .before .before .pre .0) _ _ _ (c .before .before .before .before .before .before .before .before .before .before .before .before .before .before .before .before .before .before .before .before .before .before .read-step .ensures) _ _ _ _ (c .before .before .before .before .before .before .before .before .before .before .before .before .before .before .before .before .r .given .1) _ _ _ _ (c .before .before .before .before .before .before .before .before .take-addition .ensures .1 .0) (c .before .before .before .before .before .before .before .before .take-addition .ensures .1 .1) (omega (arith, c .before .before .before .before .before .before .before .before .before .before .before .before .before .before .before .before .before .before .before .before .before .before .before .before .before .before .before .before .before .before .before .before .good .0 .1)) _ (c .before .before .before .before .before .before .before .before .take-addition .ensures .0)
 
--- src/lib.rt:322:1
 same-length-7 : tie.Need-same-length-7
 same-length-7 c = search needs
 
--- src/lib.rt:322:1
 same-length-8 : tie.Need-same-length-8
 same-length-8 c = search needs
 
--- src/lib.rt:322:1
 same-length-9 : tie.Need-same-length-9
 same-length-9 c = search needs
 
--- src/lib.rt:322:1
 same-length-10 : tie.Need-same-length-10
 same-length-10 c = search needs
 
--- src/lib.rt:322:1
 returns-2 : tie.Need-returns-2
-returns-2 c = ?
+returns-2 c = deletion-taken _ _ _ _ _ _ _ _ (c .before .before .before .before .before .before .before .before .before .before .before .before .before .before .before .before .before .before .before .before .before .before .before .before .before .before .before .before .pre .0) _ _ _ (c .before .before .before .before .before .before .before .before .before .before .before .before .before .before .before .before .before .before .read-step .ensures) _ _ (c .before .before .before .before .before .before .before .before .before .before .before .before .r2 .given .1) _ _ _ _ (c .before .before .before .before .before .before .take-deletion .ensures .1 .0) (c .before .before .before .before .before .before .take-deletion .ensures .1 .1) (omega (arith, c .before .before .before .before .before .before .before .before .before .before .before .before .before .before .before .before .before .before .before .before .before .before .before .before .before .before .before .before .good .0 .1)) _ (c .before .before .before .before .before .before .take-deletion .ensures .0)
 
--- src/lib.rt:322:1
 same-length-11 : tie.Need-same-length-11
 same-length-11 c = search needs
 
--- src/lib.rt:322:1
 same-length-12 : tie.Need-same-length-12
 same-length-12 c = search needs
 
--- src/lib.rt:322:1
 returns-3 : tie.Need-returns-3
-returns-3 c = ?
+returns-3 c = nothing-taken _ _ _ _ _ _ _ _ (c .before .before .before .before .before .before .before .before .before .before .before .before .before .before .before .before .before .before .pre .0) _ _ _ (c .before .before .before .before .before .before .before .before .read-step .ensures) _ (c .before .before .r3 .given .1) _ _ _ _ _ _ (c .stop .ensures .0) (c .stop .ensures .1 .1)
 
--- src/lib.rt:322:1
 same-length-13 : tie.Need-same-length-13
 same-length-13 c = search needs
 
--- src/lib.rt:322:1
 same-length-14 : tie.Need-same-length-14
 same-length-14 c = search needs
 
--- src/lib.rt:322:1
 returns-4 : tie.Need-returns-4
-returns-4 c = ?
+returns-4 c = bad-taken _ _ _ _ _ _ _ _ (c .before .before .before .before .before .before .before .before .before .before .before .before .before .before .before .before .before .before .pre .0) _ _ _ (c .before .before .before .before .before .before .before .before .read-step .ensures) _ _ _ (c .before .before .r4 .given .1) _ _ _ _ _ _ (c .stop2 .ensures .0) (c .stop2 .ensures .1 .1)
 
--- src/lib.rt:322:1
 same-length-15 : tie.Need-same-length-15
 same-length-15 c = search needs
 
--- src/lib.rt:322:1
 same-length-16 : tie.Need-same-length-16
 same-length-16 c = search needs
 
--- src/lib.rt:322:1
 returns-5 : tie.Need-returns-5
-returns-5 c = ?
+returns-5 c = short-taken _ _ _ _ _ _ _ _ (c .before .before .before .before .before .before .before .before .before .before .before .before .before .before .before .before .before .before .pre .0) _ _ _ (c .before .before .before .before .before .before .before .before .read-step .ensures) _ _ _ (c .before .before .r5 .given .1) _ _ _ _ _ _ (c .stop3 .ensures .0) (c .stop3 .ensures .1 .1)
 
 pub take-step-spec : {M : Type 1} → statement M
 take-step-spec =
