@@ -1,6 +1,7 @@
 // Judging one addition: rules 1 to 5 of document 01, section 5, over the store of live clauses and an assignment as marks.
 // Whatever the verdict, the marks are left as they were. Nothing is promised of slices that hold no store, nor of what is left
-// on the tape. The turns of every loop, also of those of other crates, are counted.
+// on the tape. The turns of every loop, also of those of other crates, are counted, up to the greatest number, so that no
+// slice can be too long.
 use clauses::Found;
 use groups::Matched;
 use judge::falsifying::Falsity;
@@ -196,6 +197,7 @@ fn judge_there(
     );
     let v = g.verdict;
     let back = assignment::undo(marks, tape, t, g.t);
+    // Only the hints can take more turns than can be counted: the others are few, or go with the places of a slice.
     let own = turns + clauses::count(r.passed) + 1 + back;
     let all = clauses::plus(own, g.turns);
     Judged {

@@ -147,7 +147,7 @@ module _ (live : Live) (marks tape : List ℕ) (t h literals : ℕ) (marks′ : 
   stop-says NotForced f y = take-neither live a h hs (f .0 .clause) (f .0 .found) (f .0 .says a s)
   stop-says TooShort f y = tt
 
-  -- The hints cost no more than this one.
+  -- No hint behind this one costs anything.
   stop-least : (turns least : ℕ) → (cost 0 live a (h ∷ hs) ≤ suc literals → Reaches least turns) → (e : Effect) → EffectCase live marks tape t h literals marks′ t′ e → stopsAt e ≡ true
       → LeastCase least turns (howBy e h)
   stop-least turns least r Forced f y = absurd (false≢true y)

@@ -1,7 +1,7 @@
 // Rule 3: hints, one by one.
 //
 // The turns are counted: one for each hint that is looked at, one for each halving of the search for its clause, and one for
-// each literal of that clause.
+// each literal of that clause. They are counted up to the greatest number, so that no slice can be too long.
 use assignment::Look;
 use clauses::Found;
 ghost use mathlib.Core.Path.{_≡_};
