@@ -1,7 +1,8 @@
 -- What the functions between the run and the front door promise.
-use Prim.Native.Nat.{ℕ, _+_, _*_, _/_, _%_, _^_, _<_, _≤_}
+use Prim.Native.Nat.{ℕ, _+_, _*_, _/_, _%_, _<_, _≤_}
 use mathlib.Core.Path.{_≡_}
 use mathlib.Core.Logic.{_⊎_}
+use mathlib.Core.Bool.{Bool, true, false}
 use mathlib.Core.List.{List, []}
 use lib.ListN.{length, getD, take}
 use Rattle.meaning.specs.Meaning.{Formula}
@@ -40,13 +41,20 @@ pub record Cleared (marks : List ℕ) : Type 0 where
 pub record Charged (bytes used closed r : ℕ) : Type 0 where
   pub at-most : r ≤ 4 * bytes + 2 * used + 2 * closed + 2
 
+-- Each literal has a mark, or there is none; or the greatest has none.
+abbrev pub HasCase : ℕ → ℕ → ℕ → Bool → Type 0
+HasCase marks used top true = (used ≡ 0) ⊎ (2 * top + 1 < marks)
+HasCase marks used top false = (1 ≤ used) × (marks ≤ 2 * top + 1)
+
+pub record HasMarks (marks used top : ℕ) (r : Bool) : Type 0 where
+  pub case : HasCase marks used top r
+
 -- The clauses of a formula are in the store, and no mark is set.
 pub record Begun (heads lits marks : List ℕ) (n used top : ℕ) : Type 0 where
   pub formula : Formula
   pub holds : Holds heads lits n used n (numbered 0 (formula .clauses))
   pub is-n : n ≡ length (formula .clauses)
   pub is-top : top ≡ greatest (take used lits) / 2
-  pub small : top < 2 ^ 31
   pub paired : Paired marks
   pub clear : Shows marks []
 

@@ -15,7 +15,7 @@ ghost use Prim.Native.Nat.{_+_, _%_, _≤_};
 ghost use lib.ListN.{length};
 ghost use Rattle.checker.specs.Promises.{Exact, Means, Room, FollowsLive, timeBound, stepOf};
 ghost use Rattle.checker.specs.Running.{proofTurns};
-ghost use Rattle.checker.specs.Answering.{answerBy, Cells, Cleared, Charged, Begun, Answers, ChecksMarked};
+ghost use Rattle.checker.specs.Answering.{answerBy, Cells, Cleared, Charged, HasMarks, Begun, Answers, ChecksMarked};
 
 // The answers of document 01, section 1.
 pub enum Answer {
@@ -83,6 +83,20 @@ fn reading(bytes: usize, used: usize, closed: usize) -> u64
     clauses::plus(all, 2)
 }
 
+// Whether each of so many literals has a mark, where `top` is the greatest variable in them.
+fn has_marks(marks: usize, used: usize, top: u32) -> bool
+    ensures { λ r. ⌜ HasMarks marks used top r ⌝ }
+{
+    if used == 0 {
+        return true;
+    }
+    let least = 2 * clauses::cell(top) + 1;
+    if least < marks {
+        return true;
+    }
+    false
+}
+
 // The formula lies in the store, as n clauses with so many literals, of which `top` is the greatest variable: its proof is
 // checked, behind so many turns.
 fn check_stored(
@@ -103,8 +117,7 @@ fn check_stored(
     ensures least { λ r. ⌜ stepOf (r .answer) ≤ r .turns ⌝ }
     ensures most { λ r. ⌜ r .turns ≤ before + n + proofTurns (now (proof .entry)) (n + used) ⌝ }
 {
-    let least = 2 * clauses::cell(top) + 1;
-    if marks.len() <= least {
+    if !has_marks(marks.len(), used, top) {
         return Checked {
             answer: Answer::TooShort,
             turns: before,

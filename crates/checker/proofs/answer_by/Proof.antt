@@ -1,46 +1,36 @@
+-- `answer_by` meets its contract, case by case. Assumes nothing.
+use Rattle.checker.proofs.Answering.{answer-at}
 use borrow.Author.Needs.{needs}
 use Rattle.checker.proofs.answer_by.Statement.{statement}
 use Rattle.checker.proofs.answer_by.Tie as tie
-use Rattle.checker.proofs.answer_by.Reads as reads
-use Rattle.checker.proofs.answer_by.Lts as lts
 
--- src/lib.rt:41:25
 enum-known-e : tie.Need-enum-known-e
 enum-known-e c = search needs
 
--- src/lib.rt:42:27
 enum-known-e-2 : tie.Need-enum-known-e-2
 enum-known-e-2 c = search needs
 
--- src/lib.rt:43:26
 enum-known-e-3 : tie.Need-enum-known-e-3
 enum-known-e-3 c = search needs
 
--- src/lib.rt:44:27
 enum-known-e-4 : tie.Need-enum-known-e-4
 enum-known-e-4 c = search needs
 
--- src/lib.rt:45:28
 enum-told : tie.Need-enum-told
 enum-told c = search needs
 
--- src/lib.rt:37:1
 returns : tie.Need-returns
-returns c = ?
+returns c = answer-at _ _ (c .before .e .given .1)
 
--- src/lib.rt:37:1
 returns-2 : tie.Need-returns-2
-returns-2 c = ?
+returns-2 c = answer-at _ _ (c .before .e2 .given .1)
 
--- src/lib.rt:37:1
 returns-3 : tie.Need-returns-3
-returns-3 c = ?
+returns-3 c = answer-at _ _ (c .before .e3 .given .1)
 
--- src/lib.rt:37:1
 returns-4 : tie.Need-returns-4
-returns-4 c = ?
+returns-4 c = answer-at _ _ (c .before .e4 .given .1)
 
--- src/lib.rt:37:1
 returns-5 : tie.Need-returns-5
 returns-5 c = search needs
 

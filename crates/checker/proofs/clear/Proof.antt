@@ -1,46 +1,41 @@
+-- `clear` meets its contract: the first i marks are 0. The measure is what is left of them. Assumes nothing.
+use Prim.Native.Nat.{_-_}
+use lib.ListN.{length}
+use native.Mathlib.Omega.{arith}
+use Rattle.checker.proofs.Clearing.{Clearing, clearing-start, clearing-on, clearing-end}
 use borrow.Author.Needs.{needs}
 use Rattle.checker.proofs.clear.Statement.{statement}
 use Rattle.checker.proofs.clear.Tie as tie
-use Rattle.checker.proofs.clear.Reads as reads
-use Rattle.checker.proofs.clear.Lts as lts
 
 abbrev Inv-loop : tie.InvT-loop
-Inv-loop marks₀ i₀ turns₀ marks i turns = ?
+Inv-loop marks₀ i₀ turns₀ marks i turns = Clearing marks₀ marks i turns
 
 abbrev μ-loop : tie.MeasureT-loop
-μ-loop marks₀ i₀ turns₀ marks i turns = ?
+μ-loop marks₀ i₀ turns₀ marks i turns = length marks₀ - i
 
--- src/lib.rt:65:5
 loop-holds : tie.Need-loop-holds Inv-loop μ-loop
-loop-holds c = ?
+loop-holds c = clearing-start _
 
--- src/lib.rt:66:9
 slice-write-marks : tie.Need-slice-write-marks Inv-loop μ-loop
-slice-write-marks c = ?
+slice-write-marks c = omega (arith, c .loop-test .taken)
 
--- src/lib.rt:67:9
 add-i : tie.Need-add-i Inv-loop μ-loop
-add-i c = ?
+add-i c = omega (arith, c .loop-test .taken)
 
--- src/lib.rt:68:9
 add-turns : tie.Need-add-turns Inv-loop μ-loop
-add-turns c = ?
+add-turns c = omega (arith, c .loop-test .taken, c .before .loop .inv .counted)
 
--- src/lib.rt:65:5
 loop-less : tie.Need-loop-less Inv-loop μ-loop
-loop-less c = ?
+loop-less c = omega (arith, c .loop-test .taken, c .before .loop .inv .long)
 
--- src/lib.rt:65:5
 loop-again : tie.Need-loop-again Inv-loop μ-loop
-loop-again c = ?
+loop-again c = clearing-on _ _ _ _ (c .before .loop .inv) (omega (arith, c .loop-test .taken))
 
--- src/lib.rt:60:1
 same-length : tie.Need-same-length Inv-loop μ-loop
-same-length c = ?
+same-length c = c .before .loop .inv .long
 
--- src/lib.rt:60:1
 returns : tie.Need-returns Inv-loop μ-loop
-returns c = ?
+returns c = clearing-end _ _ _ _ (c .before .loop .inv) (omega (arith, c .loop-test .left))
 
 pub clear-spec : {M : Type 1} → statement M
 clear-spec =

@@ -1,8 +1,13 @@
+-- `running::run` meets its contract. The loop's invariant is `Running`: what is left comes to what the whole comes to. The measure
+-- is how many tokens are left. Assumes nothing.
+use mathlib.Core.Path.{sym, _∙_}
+use lib.ListN.{length, drop}
+use native.Mathlib.Omega.{arith}
+use Rattle.rules.specs.Text.{tokens}
+use Rattle.checker.proofs.Runs.{Running, running-start, running-small, running-end, running-on, running-less}
 use borrow.Author.Needs.{needs}
 use Rattle.checker.proofs.running.run.Statement.{statement}
 use Rattle.checker.proofs.running.run.Tie as tie
-use Rattle.checker.proofs.running.run.Reads as reads
-use Rattle.checker.proofs.running.run.Lts as lts
 use Rattle.checker.proofs.running.end_by.Reads as end-by-reads
 use Rattle.checker.proofs.running.onward.Reads as onward-reads
 use Rattle.checker.proofs.running.stops.Reads as stops-reads
@@ -10,76 +15,58 @@ use Rattle.clauses.proofs.plus.Reads as plus-reads
 use Rattle.stepping.proofs.take_step.Reads as take-step-reads
 
 abbrev Inv-loop : tie.InvT-loop
-Inv-loop proof heads₀ lits₀ hints₀ guess₀ marks₀ tape₀ at₀ done₀ turns₀ b₀ heads lits hints guess marks tape at done turns b =
-    ?
+Inv-loop proof heads₀ lits₀ hints₀ guess₀ marks₀ tape₀ at₀ done₀ turns₀ b₀ heads lits hints guess marks tape at done turns b = Running proof b₀ heads₀ lits₀ hints₀ guess₀ marks₀ tape₀ heads lits hints guess marks tape at done turns b
 
 abbrev μ-loop : tie.MeasureT-loop
-μ-loop proof heads₀ lits₀ hints₀ guess₀ marks₀ tape₀ at₀ done₀ turns₀ b₀ heads lits hints guess marks tape at done turns b =
-    ?
+μ-loop proof heads₀ lits₀ hints₀ guess₀ marks₀ tape₀ at₀ done₀ turns₀ b₀ heads lits hints guess marks tape at done turns b = length (tokens (drop at proof))
 
--- src/running.rt:92:5
 loop-holds : tie.Need-loop-holds Inv-loop μ-loop
-loop-holds c = ?
+loop-holds c = running-start _ _ _ _ _ _ _ _ (c .before .before .before .before .before .before .before .pre)
 
--- src/running.rt:93:13
 take-step-requires : tie.Need-take-step-requires Inv-loop μ-loop
-take-step-requires c κs = ?
+take-step-requires c κs = (c .before .before .before .before .before .before .loop .inv .keeps, c .before .before .before .before .before .before .loop .inv .within)
 
--- src/running.rt:94:9
 plus-requires : tie.Need-plus-requires Inv-loop μ-loop
-plus-requires c κs = ?
+plus-requires c κs = search needs
 
--- src/running.rt:96:12
 stops-requires : tie.Need-stops-requires Inv-loop μ-loop
-stops-requires c κs = ?
+stops-requires c κs = search needs
 
--- src/running.rt:97:17
 end-by-requires : tie.Need-end-by-requires Inv-loop μ-loop
-end-by-requires c κs = ?
+end-by-requires c κs = running-small _ _ _ _ _ _ _ _ _ _ _ _ _ _ _ _ _ _ (c .before .before .before .before .before .before .before .before .before .before .before .before .before .before .before .before .before .before .before .before .before .before .loop .inv) (omega (arith, c .before .before .before .before .before .before .before .before .before .before .before .before .before .before .before .before .before .before .before .before .before .before .before .before .before .before .before .before .before .before .good .0 .1))
 
--- src/running.rt:98:13
 same-length : tie.Need-same-length Inv-loop μ-loop
-same-length c = ?
+same-length c = c .before .before .before .before .before .before .before .before .before .before .before .before .before .before .before .before .take-step .kept .1 .1 .1 .0 ∙ c .before .before .before .before .before .before .before .before .before .before .before .before .before .before .before .before .before .before .before .before .before .before .before .loop .inv .heads-long
 
--- src/running.rt:98:13
 same-length-2 : tie.Need-same-length-2 Inv-loop μ-loop
-same-length-2 c = ?
+same-length-2 c = c .before .before .before .before .before .before .before .before .before .before .before .before .before .before .before .before .take-step .kept .1 .1 .1 .1 .0 ∙ c .before .before .before .before .before .before .before .before .before .before .before .before .before .before .before .before .before .before .before .before .before .before .before .loop .inv .lits-long
 
--- src/running.rt:98:13
 same-length-3 : tie.Need-same-length-3 Inv-loop μ-loop
-same-length-3 c = ?
+same-length-3 c = c .before .before .before .before .before .before .before .before .before .before .before .before .before .before .before .before .take-step .kept .1 .1 .1 .1 .1 .0 ∙ c .before .before .before .before .before .before .before .before .before .before .before .before .before .before .before .before .before .before .before .before .before .before .before .loop .inv .hints-long
 
--- src/running.rt:98:13
 same-length-4 : tie.Need-same-length-4 Inv-loop μ-loop
-same-length-4 c = ?
+same-length-4 c = c .before .before .before .before .before .before .before .before .before .before .before .before .before .before .before .before .take-step .kept .1 .1 .1 .1 .1 .1 .0 ∙ c .before .before .before .before .before .before .before .before .before .before .before .before .before .before .before .before .before .before .before .before .before .before .before .loop .inv .guess-long
 
--- src/running.rt:98:13
 same-length-5 : tie.Need-same-length-5 Inv-loop μ-loop
-same-length-5 c = ?
+same-length-5 c = c .before .before .before .before .before .before .before .before .before .before .before .before .before .before .before .before .take-step .kept .1 .1 .1 .1 .1 .1 .1 .0 ∙ c .before .before .before .before .before .before .before .before .before .before .before .before .before .before .before .before .before .before .before .before .before .before .before .loop .inv .marks-long
 
--- src/running.rt:98:13
 same-length-6 : tie.Need-same-length-6 Inv-loop μ-loop
-same-length-6 c = ?
+same-length-6 c = c .before .before .before .before .before .before .before .before .before .before .before .before .before .before .before .before .take-step .kept .1 .1 .1 .1 .1 .1 .1 .1 .0 ∙ c .before .before .before .before .before .before .before .before .before .before .before .before .before .before .before .before .before .before .before .before .before .before .before .loop .inv .tape-long
 
--- src/running.rt:98:13
 returns : tie.Need-returns Inv-loop μ-loop
-returns c = ?
+returns c = running-end _ _ _ _ _ _ _ _ _ _ _ _ _ _ _ _ _ _ (c .before .before .before .before .before .before .before .before .before .before .before .before .before .before .before .before .before .before .before .before .before .before .before .loop .inv) _ _ _ _ _ _ _ (c .before .before .before .before .before .before .before .before .before .before .before .before .before .before .before .before .take-step .ensures) (c .before .before .before .plus .ensures) (sym (c .before .before .stops .ensures) ∙ c .before .if1 .taken) (omega (arith, c .before .before .before .before .before .before .before .before .before .before .before .before .before .before .before .before .before .before .before .before .before .before .before .before .before .before .before .before .before .before .before .good .0 .1)) _ (c .end-by .ensures)
 
--- src/running.rt:103:9
 onward-requires : tie.Need-onward-requires Inv-loop μ-loop
-onward-requires c κs = ?
+onward-requires c κs = search needs
 
--- src/running.rt:105:9
 add-done : tie.Need-add-done Inv-loop μ-loop
-add-done c = ?
+add-done c = record { fits = omega (arith, running-small _ _ _ _ _ _ _ _ _ _ _ _ _ _ _ _ _ _ (c .before .before .before .before .before .before .before .before .before .before .before .before .before .before .before .before .before .before .before .before .before .before .before .loop .inv) (omega (arith, c .before .before .before .before .before .before .before .before .before .before .before .before .before .before .before .before .before .before .before .before .before .before .before .before .before .before .before .before .before .before .before .good .0 .1))) }
 
--- src/running.rt:92:5
 loop-less : tie.Need-loop-less Inv-loop μ-loop
-loop-less c = ?
+loop-less c = running-less _ _ _ _ _ _ _ _ _ _ _ _ _ _ _ _ _ _ (c .before .before .before .before .before .before .before .before .before .before .before .before .before .before .before .before .before .before .before .before .before .before .before .loop .inv) _ _ _ _ _ _ _ (c .before .before .before .before .before .before .before .before .before .before .before .before .before .before .before .before .take-step .ensures) (c .before .before .before .plus .ensures) (sym (c .before .before .stops .ensures) ∙ c .before .if1 .left)
 
--- src/running.rt:92:5
 loop-again : tie.Need-loop-again Inv-loop μ-loop
-loop-again c = ?
+loop-again c = running-on _ _ _ _ _ _ _ _ _ _ _ _ _ _ _ _ _ _ (c .before .before .before .before .before .before .before .before .before .before .before .before .before .before .before .before .before .before .before .before .before .before .before .loop .inv) _ _ _ _ _ _ _ (c .before .before .before .before .before .before .before .before .before .before .before .before .before .before .before .before .take-step .ensures) (c .before .before .before .plus .ensures) _ _ _ (c .before .before .before .before .before .before .before .before .before .before .before .before .before .before .before .before .take-step .kept .1 .1 .1 .0) (c .before .before .before .before .before .before .before .before .before .before .before .before .before .before .before .before .take-step .kept .1 .1 .1 .1 .0) (c .before .before .before .before .before .before .before .before .before .before .before .before .before .before .before .before .take-step .kept .1 .1 .1 .1 .1 .0) (c .before .before .before .before .before .before .before .before .before .before .before .before .before .before .before .before .take-step .kept .1 .1 .1 .1 .1 .1 .0) (c .before .before .before .before .before .before .before .before .before .before .before .before .before .before .before .before .take-step .kept .1 .1 .1 .1 .1 .1 .1 .0) (c .before .before .before .before .before .before .before .before .before .before .before .before .before .before .before .before .take-step .kept .1 .1 .1 .1 .1 .1 .1 .1 .0) (omega (arith, c .before .before .before .before .before .before .before .before .before .before .before .before .before .before .before .before .before .before .before .before .before .before .before .before .before .before .before .before .before .before .before .good .0 .1)) (sym (c .before .before .stops .ensures) ∙ c .before .if1 .left) _ (c .onward .ensures)
 
 pub run-spec : {M : Type 1} → statement M
 run-spec =

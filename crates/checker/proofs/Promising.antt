@@ -1,0 +1,187 @@
+-- The promises of the front door, from what its parts come to. Assumes nothing.
+use Prim.Native.Nat.{ℕ, _+_, _*_, _%_, _<_, _≤_}
+use mathlib.Core.Path.{_≡_, refl, sym, ap, _∙_}
+use mathlib.Core.Logic.{_⊎_, inl, inr, ⊎-elim}
+use mathlib.Core.List.{List}
+use mathlib.Core.Option.{none, some}
+use native.Mathlib.Omega.{arith}
+use borrow.Author.Tests.{leb-true}
+use lib.Dec.{leb}
+use lib.ListN.{length, take}
+use lib.Seq.{length-take-le}
+use Rattle.meaning.specs.Meaning.{Literal, pos, neg, variable, Formula}
+use Rattle.rules.specs.Limits.{maxVariable}
+use Rattle.rules.specs.Text.{Token, nought, plus, minus, letterD, other, tokens, literal}
+use Rattle.rules.specs.Answers.{verified, start, verdict, Refuted}
+use Rattle.rules.proofs.Options.{none-some, some-inj, only-some}
+use Rattle.rules.specs.Judging.{State}
+use Rattle.rules.proofs.Counting.{tokens-few}
+use Rattle.rules.proofs.Limited.{read-within}
+use Rattle.rules.proofs.Running.{step-shorter}
+use Rattle.rules.proofs.Soundness.{verdict-sound}
+use Rattle.clauses.proofs.Numbers.{cut}
+use Rattle.steps.specs.Reading.{LargeIn}
+use Rattle.stepping.specs.Stepping.{Lacks}
+use Rattle.checker.specs.Promises.{said, Exact, Means, timeBound, stepOf, StandsIn, Leads, here, then, Enough, Room, NoMark, ShortAt, ShortLater, Short, FollowsLive}
+use Rattle.checker.specs.Answering.{Cells, ChecksMarked}
+use Rattle.checker.specs.declared.Answer.{Answer}
+use Rattle.checker.specs.declared.Answer.the-variants.{Verified, TooShort}
+use Rattle.checker.proofs.Storing.{within-clauses}
+
+-- unsolvable
+
+pub exact-means : (f p : List ℕ) (a : Answer) → Exact f p a → Means f a
+exact-means f p a x k e =
+    ⊎-elim
+    (λ short. absurd (let z : _≡_ {A = ℕ} 0 1 = cc in omega arith))
+    (λ says. verdict-sound f p k (sym (some-inj (ap said (sym e) ∙ says))))
+    x
+
+-- live
+
+-- A literal's variable is within the limit of variables.
+literal-most : (m : ℕ) (t : Token) (l : Literal) → literal m t ≡ some l → variable l ≤ m
+unfolding literal
+literal-most m nought l e = none-some e
+literal-most m (plus v) l e = let r = only-some (leb v m) (pos v) l e in rw (← (r .same)) (leb-true v m (r .passed))
+literal-most m (minus v) l e = let r = only-some (leb v m) (neg v) l e in rw (← (r .same)) (leb-true v m (r .passed))
+literal-most m letterD l e = none-some e
+literal-most m other l e = none-some e
+
+-- Where a variable that there may be has no cell, there are too few marks.
+cells-above : (marks cells v : ℕ) → Cells marks cells → v ≤ maxVariable → cells ≤ 2 * v + 1 → marks ≤ 2 * v + 1
+cells-above marks cells v c w h =
+    ⊎-elim (λ few. omega arith) (λ many. absurd (omega (arith, c .enough (2 * v + 2) (omega arith) many (omega arith)))) (cut marks (2 * v + 2))
+
+module _ (f p heads lits hints marks tape : List ℕ) (cells : ℕ) (c : Cells (length marks) cells) where
+  lacks-marks : (n used : ℕ) (ts : List Token) → Lacks heads lits hints tape cells n used ts → Lacks heads lits hints tape (length marks) n used ts
+  lacks-marks n used ts x = record {
+    codes = x .codes;
+    few = x .few;
+    short =
+        ⊎-elim
+        (λ a. inl a)
+        (λ y. ⊎-elim (λ a. inr (inl a)) (λ z. ⊎-elim (λ a. inr (inr (inl a))) (λ w. ⊎-elim (λ a. inr (inr (inr (inl a)))) (λ g. inr (inr (inr (inr (large g))))) w) z) y)
+        (x .short);
+  }
+    where
+      large : LargeIn cells ts → LargeIn (length marks) ts
+      large g = record {
+        front = g .front;
+        token = g .token;
+        rest = g .rest;
+        is = g .is;
+        sofar = g .sofar;
+        reached = g .reached;
+        large = record {
+          id = g .large .id;
+          others = g .large .others;
+          large = g .large .large;
+          is = g .large .is;
+          says = g .large .says;
+          above = cells-above (length marks) cells (variable (g .large .large)) c (literal-most maxVariable (g .token) (g .large .large) (g .large .says)) (g .large .above);
+        };
+      }
+
+  later-marks : ShortLater f p heads lits hints tape cells → ShortLater f p heads lits hints tape (length marks)
+  later-marks x = record {
+    formula = x .formula;
+    is = x .is;
+    all = x .all;
+    few = x .few;
+    short =
+        ⊎-elim
+        (λ y.
+        let w = read-within f (x .formula) (x .is) in
+        inl
+        (record {
+          variable = y .variable;
+          occurs = y .occurs;
+          above = cells-above (length marks) cells (y .variable) c (omega (arith, within-clauses (x .formula .vars) (y .variable) (x .formula .clauses) (w .all-within) (y .occurs), w .few-variables)) (y .above);
+        }))
+        (λ y.
+        inr
+        (record {
+          state = y .state;
+          rest = y .rest;
+          leads = y .leads;
+          n = y .n;
+          used = y .used;
+          twice = y .twice;
+          few = y .few;
+          lacks = lacks-marks (y .n) (y .used) (y .rest) (y .lacks);
+        }))
+        (x .short);
+  }
+
+  short-marks : Short f p heads lits hints tape cells → Short f p heads lits hints tape (length marks)
+  short-marks x = ⊎-elim (λ a. inl a) (λ y. inr (later-marks y)) x
+
+-- room
+
+-- Steps take tokens.
+leads-fewer : (s : State) (ts : List Token) (s′ : State) (ts′ : List Token) → Leads s ts s′ ts′ → length ts′ ≤ length ts
+leads-fewer s ts s′ ts′ here = omega arith
+leads-fewer s ts s′ ts′ (then {s₁ = s₁} {ts₁ = ts₁} r l is j) = omega (arith, step-shorter ts₁ r is, leads-fewer s ts s₁ ts₁ l)
+
+module _ (f p heads lits hints marks tape : List ℕ) (e : Enough f p heads lits hints marks tape) where
+  no-mark-never : (x : ShortLater f p heads lits hints tape (length marks)) → NoMark (x .formula) (length marks) → ⊥
+  no-mark-never x y =
+      omega (arith, e .in-marks (y .variable) (inl (record { formula = x .formula; is = x .is; stands = y .occurs })), y .above)
+
+  short-never : (x : ShortLater f p heads lits hints tape (length marks)) → ShortAt heads lits hints tape (length marks) (start (x .formula)) (tokens p) (x .all) → ⊥
+  short-never x y =
+      ⊎-elim
+      (λ h. omega (arith, e .in-heads, x .few, y .few, y .lacks .few))
+      (λ q.
+      ⊎-elim
+      (λ l. omega (arith, e .in-lits, x .few, y .few, y .lacks .few))
+      (λ r.
+      ⊎-elim
+      (λ i. hints-never i)
+      (λ s. ⊎-elim (λ t. omega (arith, e .in-tape, x .few, y .few, y .lacks .few)) (λ g. large-never g) s)
+      r)
+      q)
+      (y .lacks .short)
+    where
+      large-never : LargeIn (length marks) (y .rest) → ⊥
+      large-never g =
+          let stands : StandsIn (variable (g .large .large)) (y .rest) =
+              record {
+                front = g .front;
+                token = g .token;
+                rest = g .rest;
+                is = g .is;
+                sofar = g .sofar;
+                begins = g .reached;
+                id = g .large .id;
+                others = g .large .others;
+                here = g .large .large;
+                goes-on = g .large .is;
+                says = g .large .says;
+                is-variable = refl;
+              } in
+          omega (arith, e .in-marks (variable (g .large .large)) (inr (record { formula = x .formula; is = x .is; state = y .state; rest = y .rest; leads = y .leads; stands = stands })), g .large .above)
+
+      hints-never : length hints ≤ y .lacks .codes → ⊥
+      hints-never h = omega (arith, e .in-hints, y .lacks .few, leads-fewer (start (x .formula)) (tokens p) (y .state) (y .rest) (y .leads), tokens-few p)
+
+  pub enough-never : Short f p heads lits hints tape (length marks) → ⊥
+  enough-never x =
+      ⊎-elim
+      (λ y. ⊎-elim (λ l. omega (arith, e .in-lits)) (λ h. omega (arith, e .in-heads)) y)
+      (λ y. ⊎-elim (λ a. no-mark-never y a) (λ b. short-never y b) (y .short))
+      x
+
+-- All promises.
+pub promises : (f p heads lits hints marks tape : List ℕ) (cells : ℕ) → Cells (length marks) cells → (a : Answer) (turns : ℕ)
+    → ChecksMarked f p heads lits hints (take cells marks) tape a turns
+    → Exact f p a × (Means f a × (Room f p heads lits hints marks tape a × (FollowsLive f p heads lits hints marks tape a × ((turns ≤ timeBound (length f) (length p)) × (stepOf a ≤ turns)))))
+promises f p heads lits hints marks tape cells c a turns x =
+    (x .exact, (exact-means f p a (x .exact), ((λ e q. enough-never f p heads lits hints marks tape e (short q)), (short, (x .most, x .least)))))
+  where
+    long : length (take cells marks) ≡ cells
+    long = length-take-le cells marks (c .within)
+
+    short : FollowsLive f p heads lits hints marks tape a
+    short q = short-marks f p heads lits hints marks tape cells c (rw long at (x .short q))
