@@ -173,6 +173,13 @@ module _ (f p heads lits hints marks tape : List ℕ) (e : Enough f p heads lits
       (λ y. ⊎-elim (λ a. no-mark-never y a) (λ b. short-never y b) (y .short))
       x
 
+-- The marks that are used.
+pub cells-long : (marks : List ℕ) (cells : ℕ) → Cells (length marks) cells → cells ≡ length (take cells marks)
+cells-long marks cells c = sym (length-take-le cells marks (c .within))
+
+pub cells-fit : (marks : List ℕ) (cells : ℕ) → Cells (length marks) cells → (length (take cells marks) % 2 ≡ 0) × (length (take cells marks) ≤ 33_554_432)
+cells-fit marks cells c = rw (length-take-le cells marks (c .within)) (c .even, c .few)
+
 -- All promises.
 pub promises : (f p heads lits hints marks tape : List ℕ) (cells : ℕ) → Cells (length marks) cells → (a : Answer) (turns : ℕ)
     → ChecksMarked f p heads lits hints (take cells marks) tape a turns

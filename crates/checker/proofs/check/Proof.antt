@@ -1,54 +1,43 @@
+-- `check` meets its contract. Assumes nothing.
+use Rattle.checker.proofs.Promising.{cells-long, cells-fit, promises}
 use borrow.Author.Needs.{needs}
 use Rattle.checker.proofs.check.Statement.{statement}
 use Rattle.checker.proofs.check.Tie as tie
-use Rattle.checker.proofs.check.Reads as reads
-use Rattle.checker.proofs.check.Lts as lts
 use Rattle.checker.proofs.cells.Reads as cells-reads
 use Rattle.checker.proofs.check_marked.Reads as check-marked-reads
 
--- src/lib.rt:186:9
 cells-requires : tie.Need-cells-requires
 cells-requires c κs = search needs
 
--- src/lib.rt:194:9
 slice-relend-prefix-check-marked : tie.Need-slice-relend-prefix-check-marked
 slice-relend-prefix-check-marked c = search needs
 
--- src/lib.rt:194:9
 slice-aggregate-check-marked : tie.Need-slice-aggregate-check-marked
-slice-aggregate-check-marked c = ?
+slice-aggregate-check-marked c = cells-long _ _ (c .before .before .before .before .before .cells .ensures)
 
--- src/lib.rt:187:5
 check-marked-requires : tie.Need-check-marked-requires
-check-marked-requires c κs = ?
+check-marked-requires c κs = cells-fit _ _ (c .before .before .before .before .before .before .cells .ensures)
 
--- src/lib.rt:169:1
 same-length : tie.Need-same-length
 same-length c = search needs
 
--- src/lib.rt:169:1
 same-length-2 : tie.Need-same-length-2
 same-length-2 c = search needs
 
--- src/lib.rt:169:1
 same-length-3 : tie.Need-same-length-3
 same-length-3 c = search needs
 
--- src/lib.rt:169:1
 same-length-4 : tie.Need-same-length-4
 same-length-4 c = search needs
 
--- src/lib.rt:169:1
 same-length-5 : tie.Need-same-length-5
 same-length-5 c = search needs
 
--- src/lib.rt:169:1
 same-length-6 : tie.Need-same-length-6
 same-length-6 c = search needs
 
--- src/lib.rt:169:1
 returns : tie.Need-returns
-returns c = ?
+returns c = promises _ _ _ _ _ _ _ _ (c .before .before .before .before .before .before .before .before .before .before .before .before .before .before .before .before .before .before .before .cells .ensures) _ _ (c .before .before .before .before .before .before .before .before .before .before .before .before .check-marked .ensures)
 
 pub check-spec : {M : Type 1} → statement M
 check-spec =
