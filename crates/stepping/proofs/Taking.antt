@@ -160,9 +160,9 @@ module _ (proof : List ℕ) (at : ℕ) (b : Between) (heads lits hints marks tap
 
       lacks : AddShort heads tape b end many → Lacks heads lits hints tape (length marks) (b .n) (b .used) (tokens (drop at proof))
       lacks x = record {
-        codes = (end - b .used) + many;
-        few = omega (arith, split);
-        short = ⊎-elim (λ h. inl (h .short)) (λ t. inr (inr (inr (inl (omega (arith, a .placed .count)))))) x;
+        codes = length (a .new) + length (a .told);
+        step = a .begun;
+        short = ⊎-elim (λ h. inl (h .short)) (λ t. inr (inr (inr (inl (omega (arith, a .placed .count, a .noted .count)))))) x;
       }
 
       went : (o : Outcome) → Adds heads lits′ hints′ marks tape b id end many heads′ marks′ o
@@ -309,23 +309,23 @@ module _ (proof : List ℕ) (at : ℕ) (b : Between) (heads lits hints marks tap
       pub short-stopped : r ≡ ShortStep stop end many → StepStopped proof at (b .used) lits hints lits′ hints′ stop end many
       short-stopped e = let x : StepShort (length marks) proof at (b .used) lits hints lits′ hints′ stop end many = rw e at (rd .case) in x .stopped
 
+      short-lacks : StepShort (length marks) proof at (b .used) lits hints lits′ hints′ stop end many → Lacks heads lits hints tape (length marks) (b .n) (b .used) (tokens (drop at proof))
+      short-lacks x = record {
+        codes = length (x .stopped .new) + length (x .stopped .told);
+        step = x .begun;
+        short =
+            ⊎-elim
+            (λ l. inr (inl (omega (arith, x .stopped .placed .count))))
+            (λ y. ⊎-elim (λ h. inr (inr (inl (omega (arith, x .stopped .noted .count))))) (λ g. inr (inr (inr (inr g)))) y)
+            (x .short);
+      }
+
       pub short-taken : r ≡ ShortStep stop end many → (heads′ lits″ marks′ : List ℕ) (o : Outcome) (place turns : ℕ) → o ≡ TooShort
           → Spent (length proof - at) ((end - b .used) + many) (length proof - at) turns → TakesStep proof at b heads lits hints marks tape heads′ lits″ marks′ o place turns
       short-taken e heads′ lits″ marks′ o place turns eo s =
           let x : StepShort (length marks) proof at (b .used) lits hints lits′ hints′ stop end many = rw e at (rd .case) in
-          let p = x .stopped in
           rw eo
           (record {
-            case =
-              (record {
-                codes = (end - b .used) + many;
-                few = omega (arith, p .placed .count, p .noted .count, p .at-least, x .left);
-                short =
-                    ⊎-elim
-                    (λ l. inr (inl (omega (arith, p .placed .count))))
-                    (λ y. ⊎-elim (λ h. inr (inr (inl (omega arith)))) (λ g. inr (inr (inr (inr g)))) y)
-                    (x .short);
-              },
-              stopped-last proof at b ((end - b .used) + many) turns (stopped-codes p) s);
+            case = (short-lacks x, stopped-last proof at b ((end - b .used) + many) turns (stopped-codes (x .stopped)) s);
             counted = spent-one (length proof - at) ((end - b .used) + many) (length proof - at) turns s;
           })
