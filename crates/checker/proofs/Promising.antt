@@ -151,20 +151,20 @@ module _ (f p heads lits hints marks tape : List ℕ) (e : Enough f p heads lits
       large-never : LargeIn (length marks) (y .rest) → ⊥
       large-never g =
           let stands : StandsIn (variable (g .large .large)) (y .rest) =
-              record {
-                front = g .front;
-                token = g .token;
-                rest = g .rest;
-                is = g .is;
-                sofar = g .sofar;
-                begins = g .reached;
-                id = g .large .id;
-                others = g .large .others;
-                here = g .large .large;
-                goes-on = g .large .is;
-                says = g .large .says;
-                is-variable = refl;
-              } in
+          record {
+            front = g .front;
+            token = g .token;
+            rest = g .rest;
+            is = g .is;
+            sofar = g .sofar;
+            begins = g .reached;
+            id = g .large .id;
+            others = g .large .others;
+            here = g .large .large;
+            goes-on = g .large .is;
+            says = g .large .says;
+            is-variable = refl;
+          } in
           omega (arith, e .in-marks (variable (g .large .large)) (inr (record { formula = x .formula; is = x .is; state = y .state; rest = y .rest; leads = y .leads; stands = stands })), g .large .above)
 
       hints-never : length hints ≤ y .lacks .codes → ⊥

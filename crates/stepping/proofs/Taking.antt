@@ -44,10 +44,12 @@ adding-turns : (n used new many all turns bytes : ℕ) → n + used + (new + man
     → turns ≤ bytes + (new + many + 3) * rate all
 unfolding costs rate
 adding-turns n used new many all turns bytes h t =
-    omega (arith,
-    add-mul (new + many) 3 (2 * all + 73),
-    mul-le-mul {n₁ = many} {m₁ = 2 * (used + new) + 70} {n₂ = new + many} {m₂ = 2 * all + 70} (omega arith) (omega arith),
-    mul-more (new + many) (2 * all + 70))
+    omega (
+      arith,
+      add-mul (new + many) 3 (2 * all + 73),
+      mul-le-mul {n₁ = many} {m₁ = 2 * (used + new) + 70} {n₂ = new + many} {m₂ = 2 * all + 70} (omega arith) (omega arith),
+      mul-more (new + many) (2 * all + 70),
+    )
   where
     mul-more : (a x : ℕ) → a * (x + 3) ≡ a * x + 3 * a
     mul-more a x = mul-comm a (x + 3) ∙ (add-mul x 3 a ∙ ap (λ (y : ℕ). y + 3 * a) (mul-comm x a))
@@ -66,7 +68,7 @@ module _ (proof : List ℕ) (at next : ℕ) (b : Between) (codes turns : ℕ) (l
       → turns + 2 * (length proof - next) + length (tokens (drop next proof)) * rate all ≤ 2 * (length proof - at) + length (tokens (drop at proof)) * rate all
   step-most all h =
       let product : length (tokens (drop at proof)) * rate all ≡ length (tokens (drop next proof)) * rate all + (codes + 3) * rate all =
-          ap (λ (x : ℕ). x * rate all) (sym split) ∙ add-mul (length (tokens (drop next proof))) (codes + 3) (rate all) in
+      ap (λ (x : ℕ). x * rate all) (sym split) ∙ add-mul (length (tokens (drop next proof))) (codes + 3) (rate all) in
       omega (arith, product, cost all (omega (arith, split)))
 
   step-last : LastTurns proof at b turns
@@ -178,18 +180,20 @@ module _ (proof : List ℕ) (at : ℕ) (b : Between) (heads lits hints marks tap
         at-least = omega (arith, split, spent-tokens (next - at) ((end - b .used) + many) (allTurns (b .n) end many) turns s few-tokens);
         at-most = step-most proof at next b ((end - b .used) + many) turns (a .later) (a .within) split cost;
       }
-      went Verified x =
-          (record {
-            last = record { rest = tokens (drop next proof); has = has };
-            is = ap (λ (q : State). judge q (addition lits′ hints′ b id end many)) (sym (read-state lits′ (a .new) end (a .placed))) ∙ x .case;
-          },
-          last)
-      went (Refused g) x =
-          (record {
-            last = record { rest = tokens (drop next proof); has = has };
-            is = ap (λ (q : State). judge q (addition lits′ hints′ b id end many)) (sym (read-state lits′ (a .new) end (a .placed))) ∙ x .case;
-          },
-          last)
+      went Verified x = (
+        record {
+          last = record { rest = tokens (drop next proof); has = has };
+          is = ap (λ (q : State). judge q (addition lits′ hints′ b id end many)) (sym (read-state lits′ (a .new) end (a .placed))) ∙ x .case;
+        },
+        last,
+      )
+      went (Refused g) x = (
+        record {
+          last = record { rest = tokens (drop next proof); has = has };
+          is = ap (λ (q : State). judge q (addition lits′ hints′ b id end many)) (sym (read-state lits′ (a .new) end (a .placed))) ∙ x .case;
+        },
+        last,
+      )
       went TooShort x = (lacks (x .case), last)
       went Unreadable x = absurd (x .case)
       went Nothing x = absurd (x .case)
@@ -254,12 +258,13 @@ module _ (proof : List ℕ) (at : ℕ) (b : Between) (heads lits hints marks tap
         at-most = step-most proof at next b many turns (d .later) (d .within) split-ids cost-ids;
       }
       left Verified x = absurd (x .case)
-      left (Refused g) x =
-          (record {
-            last = record { rest = tokens (drop next proof); has = had };
-            is = ap (λ (q : State). judge q (deletion hints′ many)) (sym same-state) ∙ x .case;
-          },
-          step-last proof at next b many turns (d .later) (d .within) split-ids cost-ids)
+      left (Refused g) x = (
+        record {
+          last = record { rest = tokens (drop next proof); has = had };
+          is = ap (λ (q : State). judge q (deletion hints′ many)) (sym same-state) ∙ x .case;
+        },
+        step-last proof at next b many turns (d .later) (d .within) split-ids cost-ids,
+      )
       left TooShort x = absurd (x .case)
       left Unreadable x = absurd (x .case)
       left Nothing x = absurd (x .case)
