@@ -104,7 +104,8 @@ pub struct Verdict {
     pub step: u64,
     /// None if and only if the answer is 0.
     pub ground: Option<Ground>,
-    /// The greatest variable of the formula's clauses, if it is readable, and of the steps that were read whole.
+    /// The greatest variable that occurs, by which the store is measured: in the clauses of the formula, if that is readable,
+    /// and in the steps that were come to, the last one as far as it could be read.
     pub greatest_variable: u64,
     pub accepted: Accepted,
 }
@@ -241,12 +242,14 @@ pub fn has_solution(formula: &Formula) -> bool {
 // Section 4.
 
 enum Step {
-    Addition { id: i64, clause: Vec<i64>, hints: Vec<i64> },
+    /// Its literals are read into a list of their own.
+    Addition { id: i64, hints: Vec<i64> },
     Deletion { ids: Vec<i64> },
 }
 
-/// Reads the next step; None where only blanks are left.
-fn read_step(tokens: &mut Tokens) -> Result<Option<Step>, Ground> {
+/// Reads the next step; None where only blanks are left. The literals that stand in it are put into `clause` as they are read,
+/// so that they are known also of a step that turns out to be unreadable.
+fn read_step(tokens: &mut Tokens, clause: &mut Vec<i64>) -> Result<Option<Step>, Ground> {
     let Some(first) = tokens.next() else {
         return Ok(None);
     };
@@ -258,21 +261,22 @@ fn read_step(tokens: &mut Tokens) -> Result<Option<Step>, Ground> {
     let mut behind = Tokens { rest: tokens.rest };
     if behind.next() == Some(b"d") {
         *tokens = behind;
-        let ids = read_list(tokens, Ground::NoIdToDelete, |id| (1..=GREATEST_ID).contains(&id))?;
+        let mut ids = Vec::new();
+        read_list(tokens, &mut ids, Ground::NoIdToDelete, |id| (1..=GREATEST_ID).contains(&id))?;
         return Ok(Some(Step::Deletion { ids }));
     }
-    let clause = read_list(tokens, Ground::NoStepLiteral, |literal| literal.abs() <= GREATEST_VARIABLE)?;
-    let hints = read_list(tokens, Ground::NoHint, |hint| hint.abs() <= GREATEST_ID)?;
-    Ok(Some(Step::Addition { id, clause, hints }))
+    read_list(tokens, clause, Ground::NoStepLiteral, |literal| literal.abs() <= GREATEST_VARIABLE)?;
+    let mut hints = Vec::new();
+    read_list(tokens, &mut hints, Ground::NoHint, |hint| hint.abs() <= GREATEST_ID)?;
+    Ok(Some(Step::Addition { id, hints }))
 }
 
 /// Reads numbers up to the next 0. Each of them must be allowed, else the step is unreadable on the given ground.
-fn read_list(tokens: &mut Tokens, otherwise: Ground, allowed: fn(i64) -> bool) -> Result<Vec<i64>, Ground> {
-    let mut list = Vec::new();
+fn read_list(tokens: &mut Tokens, list: &mut Vec<i64>, otherwise: Ground, allowed: fn(i64) -> bool) -> Result<(), Ground> {
     loop {
         let token = tokens.next().ok_or(Ground::EndsInsideStep)?;
         match number(token) {
-            Some(0) => return Ok(list),
+            Some(0) => return Ok(()),
             Some(value) if allowed(value) => list.push(value),
             _ => return Err(otherwise),
         }
@@ -424,7 +428,10 @@ pub fn check(formula: &[u8], proof: &[u8]) -> Verdict {
     let mut live: Live = (1..).zip(formula.clauses).collect();
     let mut tokens = Tokens { rest: proof };
     for count in 1.. {
-        let step = match read_step(&mut tokens) {
+        let mut clause = Vec::new();
+        let step = read_step(&mut tokens, &mut clause);
+        verdict.greatest_variable = verdict.greatest_variable.max(greatest(&clause));
+        let step = match step {
             Err(ground) => return Verdict { answer: 2, step: count, ground: Some(ground), ..verdict },
             Ok(None) => return Verdict { answer: 4, step: count - 1, ground: Some(Ground::ProofEnds), ..verdict },
             Ok(Some(step)) => step,
@@ -440,8 +447,7 @@ pub fn check(formula: &[u8], proof: &[u8]) -> Verdict {
                 }
                 verdict.accepted.deletions += 1;
             }
-            Step::Addition { id, clause, hints } => {
-                verdict.greatest_variable = verdict.greatest_variable.max(greatest(&clause));
+            Step::Addition { id, hints } => {
                 // Rule 1.
                 if id <= greatest_id {
                     return refused(Ground::IdNotFresh, verdict);
