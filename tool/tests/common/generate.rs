@@ -611,6 +611,21 @@ fn mutate_list(random: &mut Random, list: &mut Vec<(String, bool)>) {
     }
 }
 
+/// Changes, drops, repeats, swaps or inserts one token of a text, and leaves its lines.
+pub fn mutate_text(random: &mut Random, text: &mut Vec<u8>) {
+    let mut list: Vec<(String, bool)> = Vec::new();
+    for line in String::from_utf8_lossy(text).lines() {
+        list.extend(line.split(' ').map(|token| (token.to_string(), false)));
+        list.last_mut().expect("a line has at least an empty token").1 = true;
+    }
+    mutate_list(random, &mut list);
+    text.clear();
+    for (token, line) in list {
+        text.extend(token.as_bytes());
+        text.push(if line { b'\n' } else { b' ' });
+    }
+}
+
 pub fn mutate_proof_tokens(random: &mut Random, tokens: &mut Tokens) {
     mutate_list(random, &mut tokens.proof);
 }
