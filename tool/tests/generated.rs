@@ -2,8 +2,9 @@
 
 mod common;
 
+use common::families;
 use common::generate::{self, Draft, Pair, Random};
-use common::library::{Lengths, Library};
+use common::library::{Fill, Lengths, Library};
 use common::reference::{self, Accepted, Ground, Verdict, GROUNDS};
 use std::collections::BTreeMap;
 use std::io::Write;
@@ -19,12 +20,21 @@ fn show(formula: &[u8], proof: &[u8]) -> String {
 }
 
 /// Asks both, with a store of the stated lengths, and holds the library to what the reference answers.
-fn compare(library: &mut Library, formula: &[u8], proof: &[u8], fill: u8) -> Verdict {
+fn compare(library: &mut Library, formula: &[u8], proof: &[u8], fill: Fill) -> Verdict {
     let verdict = reference::check(formula, proof);
     let lengths = Lengths::stated(formula.len(), proof.len(), verdict.greatest_variable);
     let answer = library.check(formula, proof, lengths, fill);
     assert_eq!(answer, (verdict.answer, verdict.step), "library and reference ({verdict:?}) differ\n{}", show(formula, proof));
     verdict
+}
+
+/// What a store may hold before a call, of one kind or another.
+fn some_fill(random: &mut Random) -> Fill {
+    match random.below(3) {
+        0 => Fill::Byte(random.next() as u8),
+        1 => Fill::Any(random.next()),
+        _ => Fill::Small(random.next(), 1 << random.below(9)),
+    }
 }
 
 /// Fails if a formula that was verified has a solution.
@@ -110,7 +120,7 @@ fn generated(first_seed: u64, count: u64) {
     for (draft, mut random) in drafts(first_seed, count) {
         // What the prover calls valid has to be verified at its last step, or unfinished behind its last step.
         let pair = written(&mut random, &draft);
-        let fill = random.next() as u8;
+        let fill = some_fill(&mut random);
         let verdict = compare(&mut library, &pair.formula, &pair.proof, fill);
         let expected = (if draft.finished { 0 } else { 4 }, draft.steps.len() as u64);
         assert_eq!((verdict.answer, verdict.step), expected, "{verdict:?} of a valid draft\n{}", show(&pair.formula, &pair.proof));
@@ -159,7 +169,7 @@ fn generated(first_seed: u64, count: u64) {
             pairs.push(changed);
         }
         for pair in pairs {
-            let fill = random.next() as u8;
+            let fill = some_fill(&mut random);
             let verdict = compare(&mut library, &pair.formula, &pair.proof, fill);
             mutated.add(&verdict);
             if verdict.answer == 0 {
@@ -250,7 +260,7 @@ fn vectors_of_the_document() {
     ];
     let mut library = Library::default();
     for &(formula, proof, answer, step) in vectors {
-        let verdict = compare(&mut library, formula.as_bytes(), proof.as_bytes(), 0xff);
+        let verdict = compare(&mut library, formula.as_bytes(), proof.as_bytes(), Fill::Byte(0xff));
         assert_eq!((verdict.answer, verdict.step), (answer, step), "{}", show(formula.as_bytes(), proof.as_bytes()));
     }
 }
@@ -317,7 +327,7 @@ fn formulas_around(library: &mut Library, middle: &[u8], seen: &mut Distribution
     for (before, behind) in AROUND_FORMULA {
         let formula = around(before, middle, behind);
         for proof in ["", "2 0 1 0", "3 0 1 2 0"] {
-            let verdict = compare(library, &formula, proof.as_bytes(), 0xff);
+            let verdict = compare(library, &formula, proof.as_bytes(), Fill::Byte(0xff));
             seen.add(&verdict);
             if verdict.answer == 0 {
                 assert_unsolvable(&formula, proof.as_bytes());
@@ -333,8 +343,8 @@ fn formulas_around(library: &mut Library, middle: &[u8], seen: &mut Distribution
 fn proofs_around(library: &mut Library, middle: &[u8], seen: &mut Distribution) {
     for (before, behind) in AROUND_PROOF {
         let proof = around(before, middle, behind);
-        seen.add(&compare(library, b"p cnf 0 1\n0", &proof, 0xff));
-        let verdict = compare(library, b"p cnf 1 1\n1 0\n", &proof, 0);
+        seen.add(&compare(library, b"p cnf 0 1\n0", &proof, Fill::Byte(0xff)));
+        let verdict = compare(library, b"p cnf 1 1\n1 0\n", &proof, Fill::Byte(0));
         seen.add(&verdict);
         assert!(verdict.answer != 0, "(1) has a solution\n{}", show(b"(1)", &proof));
     }
@@ -383,7 +393,7 @@ fn every_proof_of_up_to_seven_bytes_of_six() {
     // The shortest proof that is verified has seven bytes: 2 0 1 0 for the formula with the empty clause alone.
     let mut library = Library::default();
     let mut seen = Distribution::default();
-    every_list(b"012 -d", 7, &mut |proof| seen.add(&compare(&mut library, b"p cnf 0 1\n0\n", proof, 0xff)));
+    every_list(b"012 -d", 7, &mut |proof| seen.add(&compare(&mut library, b"p cnf 0 1\n0\n", proof, Fill::Byte(0xff))));
     seen.print("every proof of up to 7 bytes out of 6");
     assert_all_answers(&seen, &[0, 2, 3, 4]);
 }
@@ -405,7 +415,7 @@ fn every_short_proof_as_tokens() {
     for (formula, before) in beginnings {
         every_list(&["0", "1", "2", "3", "4", "-1", "-2", "d"], 6, &mut |tokens| {
             let proof = format!("{before}{}", tokens.join(" "));
-            let verdict = compare(&mut library, formula.as_bytes(), proof.as_bytes(), 0xff);
+            let verdict = compare(&mut library, formula.as_bytes(), proof.as_bytes(), Fill::Byte(0xff));
             seen.add(&verdict);
             if verdict.answer == 0 {
                 assert_unsolvable(formula.as_bytes(), proof.as_bytes());
@@ -481,14 +491,14 @@ fn stores_of_every_length() {
             for length in 0..enough + 4 {
                 let mut lengths = stated;
                 *part(&mut lengths) = length;
-                for fill in [0, 0xff, random.next() as u8] {
+                for fill in [Fill::Byte(0), Fill::Byte(0xff), some_fill(&mut random)] {
                     let answer = library.check(formula, proof, lengths, fill);
                     // Any table of guesses does, also none; the other parts do from the stated length on.
                     if answer == (5, 0) && length < enough && name != "guess" {
                         *too_short.entry(name).or_default() += 1;
                         continue;
                     }
-                    assert_eq!(answer, expected, "{lengths:?}, each byte {fill}\n{}", show(formula, proof));
+                    assert_eq!(answer, expected, "{lengths:?}, {fill:?}\n{}", show(formula, proof));
                     if length < enough {
                         *right.entry(name).or_default() += 1;
                     }
@@ -502,7 +512,7 @@ fn stores_of_every_length() {
                 let length = part(&mut lengths);
                 *length = random.below(*length + 9);
             }
-            let answer = library.check(formula, proof, lengths, random.next() as u8);
+            let answer = library.check(formula, proof, lengths, some_fill(&mut random));
             if answer == (5, 0) {
                 *too_short.entry("several parts").or_default() += 1;
             } else {
@@ -516,6 +526,69 @@ fn stores_of_every_length() {
         assert!(too_short.get(name).is_some_and(|&count| count > 0), "a short store was never too short in {name}");
         assert!(right.get(name).is_some_and(|&count| count > 0), "a shorter store never did in {name}");
     }
+}
+
+#[test]
+fn long_proofs_need_no_more_than_their_live_clauses() {
+    let mut library = Library::default();
+    let mut seen = Distribution::default();
+    let (mut shorter, mut too_short, mut right) = (0, 0, 0);
+    for seed in 6_000_001..6_000_301 {
+        let mut random = Random::new(seed);
+        let draft = generate::long_draft(&mut random);
+        let Pair { formula, proof } = written(&mut random, &draft);
+        let verdict = compare(&mut library, &formula, &proof, some_fill(&mut random));
+        assert_eq!((verdict.answer, verdict.step), (if draft.finished { 0 } else { 4 }, draft.steps.len() as u64), "{}", show(&formula, &proof));
+        seen.add(&verdict);
+        let expected = (verdict.answer, verdict.step);
+        let enough = Lengths::by_live_clauses(formula.len(), &verdict);
+        let stated = Lengths::stated(formula.len(), proof.len(), verdict.greatest_variable);
+        shorter += u64::from(2 * enough.heads < stated.heads && 2 * enough.lits < stated.lits);
+        for _ in 0..4 {
+            let answer = library.check(&formula, &proof, enough, some_fill(&mut random));
+            assert_eq!(answer, expected, "{enough:?}\n{}", show(&formula, &proof));
+        }
+        for (_, part) in PARTS {
+            let most = *part(&mut enough.clone());
+            for _ in 0..40 {
+                let mut lengths = enough;
+                *part(&mut lengths) = random.below(most + 1);
+                let answer = library.check(&formula, &proof, lengths, some_fill(&mut random));
+                if answer == (5, 0) {
+                    too_short += 1;
+                } else {
+                    assert_eq!(answer, expected, "{lengths:?}\n{}", show(&formula, &proof));
+                    right += 1;
+                }
+            }
+        }
+    }
+    seen.print("long proofs with many deletions");
+    say(&format!("  with a store by the live clauses, less than half of the stated one: {shorter}; with less: {too_short} too short, {right} right"));
+    assert!(shorter >= 100, "only {shorter} proofs are long beside their live clauses");
+    assert!(too_short > 0 && right > 0);
+}
+
+#[test]
+fn pigeons_by_new_names() {
+    let mut library = Library::default();
+    let mut random = Random::new(13);
+    let mut seen = Distribution::default();
+    for holes in 1..=8 {
+        let formula = reference::write_formula(&families::pigeons(holes));
+        let (proof, steps) = families::pigeons_by_new_names(holes);
+        let verdict = compare(&mut library, &formula, proof.as_bytes(), some_fill(&mut random));
+        assert_eq!((verdict.answer, verdict.step), (0, steps), "{holes} holes: {verdict:?}");
+        say(&format!("{} pigeons by new names: {} bytes, {:?}", holes + 1, proof.len(), verdict.accepted));
+        assert_eq!(verdict.accepted.by_groups > 0, holes > 1);
+        for _ in 0..400 / holes {
+            let mut changed = proof.clone().into_bytes();
+            generate::mutate_text(&mut random, &mut changed);
+            seen.add(&compare(&mut library, &formula, &changed, Fill::Byte(0xff)));
+        }
+    }
+    seen.print("pigeons by new names, changed");
+    assert_all_answers(&seen, &[0, 2, 3, 4]);
 }
 
 // Damaged files.
@@ -532,14 +605,14 @@ fn good_pairs_cut_at_every_byte() {
         pairs += 1;
         let Pair { formula, proof } = written(&mut random, &draft);
         for length in 0..formula.len() {
-            let verdict = compare(&mut library, &formula[..length], &proof, 0xff);
+            let verdict = compare(&mut library, &formula[..length], &proof, Fill::Byte(0xff));
             seen.add(&verdict);
             // A cut may leave the formula whole, without blanks at its end, and no other formula that is readable.
             let whole = formula[length..].iter().all(u8::is_ascii_whitespace) && !formula[..length].ends_with(b"-");
             assert_eq!(verdict.answer, if whole { 0 } else { 1 }, "cut at {length}\n{}", show(&formula, &proof));
         }
         for length in 0..proof.len() {
-            let verdict = compare(&mut library, &formula, &proof[..length], 0xff);
+            let verdict = compare(&mut library, &formula, &proof[..length], Fill::Byte(0xff));
             seen.add(&verdict);
             let whole = proof[length..].iter().all(u8::is_ascii_whitespace);
             assert!(whole == (verdict.answer == 0) && [0, 2, 4].contains(&verdict.answer), "cut at {length}\n{}", show(&formula, &proof));

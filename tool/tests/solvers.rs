@@ -3,7 +3,7 @@
 mod common;
 
 use common::generate::{self, Random};
-use common::library::{Lengths, Library};
+use common::library::{Fill, Lengths, Library};
 use common::reference::{self, Formula, Verdict};
 use common::{families, tracecheck};
 use std::collections::BTreeMap;
@@ -84,7 +84,7 @@ fn proofs() -> Vec<(&'static str, Vec<u8>)> {
 fn compare(library: &mut Library, name: &str, formula: &[u8], proof: &[u8]) -> Verdict {
     let verdict = reference::check(formula, proof);
     let lengths = Lengths::stated(formula.len(), proof.len(), verdict.greatest_variable);
-    let answer = library.check(formula, proof, lengths, 0xff);
+    let answer = library.check(formula, proof, lengths, Fill::Byte(0xff));
     if answer != (verdict.answer, verdict.step) {
         // These files are too long to be printed; they are kept beside the other files of the build.
         let folder = std::path::Path::new(env!("CARGO_TARGET_TMPDIR"));
@@ -129,6 +129,38 @@ fn proofs_are_verified_at_their_last_step() {
         say(&format!("{name}: {} bytes, verified at step {}, {} clauses deleted", proof.len(), verdict.step, verdict.accepted.deleted));
     }
     assert!(deletions > 1000, "the proofs have {deletions} deletions only");
+}
+
+#[test]
+fn stores_by_the_live_clauses_do() {
+    let mut library = Library::default();
+    let mut random = Random::new(12);
+    let mut answers: BTreeMap<u64, u64> = BTreeMap::new();
+    for (name, proof) in proofs() {
+        let formula = formula(name);
+        let verdict = reference::check(formula, &proof);
+        let expected = (verdict.answer, verdict.step);
+        let enough = Lengths::by_live_clauses(formula.len(), &verdict);
+        for fill in [Fill::Byte(0), Fill::Byte(0xff), Fill::Any(1), Fill::Small(2, 300)] {
+            assert_eq!(library.check(formula, &proof, enough, fill), expected, "{name}: {enough:?}, {fill:?}");
+        }
+        // With less, it is too short or does all the same.
+        for _ in 0..200 {
+            let mut lengths = enough;
+            match random.below(5) {
+                0 => lengths.heads = random.below(enough.heads),
+                1 => lengths.lits = random.below(enough.lits),
+                2 => lengths.hints = random.below(enough.hints),
+                3 => lengths.marks = random.below(enough.marks),
+                _ => lengths.tape = random.below(enough.tape),
+            }
+            let answer = library.check(formula, &proof, lengths, Fill::Small(random.next(), 300));
+            assert!(answer == (5, 0) || answer == expected, "{name}: {answer:?} with {lengths:?}");
+            *answers.entry(answer.0).or_default() += 1;
+        }
+    }
+    say(&format!("proofs of solvers, with less of a store than their live clauses ask for: answers {answers:?}"));
+    assert!(answers.contains_key(&0) && answers.contains_key(&5), "{answers:?}");
 }
 
 #[test]

@@ -329,10 +329,10 @@ impl Prover<'_> {
     }
 
     /// Deletes live clauses that follow from the others by rule 3, so that the rest says the same.
-    fn delete_some(&mut self) {
+    fn delete_some(&mut self, bound: usize) {
         let mut ids: Vec<i64> = self.live.keys().copied().collect();
         self.random.shuffle(&mut ids);
-        let most = self.random.below(4);
+        let most = self.random.below(bound);
         let mut gone = Vec::new();
         for id in ids {
             if gone.len() >= most {
@@ -388,15 +388,34 @@ impl Prover<'_> {
 
 /// A random draft in which every step is valid.
 pub fn draft(random: &mut Random) -> Draft {
+    let rounds = random.below(9);
+    draft_of(random, rounds)
+}
+
+/// A random draft with many steps beside its live clauses, since what was added is deleted again.
+pub fn long_draft(random: &mut Random) -> Draft {
+    let rounds = random.between(150, 300) as usize;
+    draft_of(random, rounds)
+}
+
+fn draft_of(random: &mut Random, rounds: usize) -> Draft {
     let (variables, clauses) = formula(random);
     let greatest_variable = if random.percent(50) { variables } else { clauses.iter().flatten().map(|l| l.abs()).max().unwrap_or(1) };
     let live: BTreeMap<i64, Vec<i64>> = (1..).zip(clauses.iter().cloned()).collect();
     let greatest_id = clauses.len() as i64;
     let mut prover = Prover { random, live, greatest_id, greatest_variable: greatest_variable.max(1), steps: Vec::new() };
-    for _ in 0..prover.random.below(9) {
+    for _ in 0..rounds {
+        // Before there are too many, clauses are deleted that were added and that follow from the others.
+        while prover.live.len() > clauses.len() + 20 {
+            let before = prover.live.len();
+            prover.delete_some(12);
+            if prover.live.len() == before {
+                break;
+            }
+        }
         match prover.random.below(10) {
             0 | 1 if prover.greatest_variable < 10 => prover.define(),
-            2 | 3 => prover.delete_some(),
+            2 | 3 => prover.delete_some(4),
             4 | 5 => {
                 let clause = prover.some_clause();
                 prover.try_rup(clause);

@@ -107,6 +107,10 @@ pub struct Verdict {
     /// The greatest variable that occurs, by which the store is measured: in the clauses of the formula, if that is readable,
     /// and in the steps that were come to, the last one as far as it could be read.
     pub greatest_variable: u64,
+    /// The most that the live clauses ever came to, in clauses and literals together.
+    pub greatest_weight: usize,
+    /// The most literals and hints, or ids to delete, of a step that was come to.
+    pub greatest_step: usize,
     pub accepted: Accepted,
 }
 
@@ -241,19 +245,22 @@ pub fn has_solution(formula: &Formula) -> bool {
 
 // Section 4.
 
-enum Step {
-    /// Its literals are read into a list of their own.
-    Addition { id: i64, hints: Vec<i64> },
-    Deletion { ids: Vec<i64> },
+/// A step, as far as it was read; what was read counts also where the step turns out to be unreadable.
+#[derive(Default)]
+struct Step {
+    id: i64,
+    is_deletion: bool,
+    clause: Vec<i64>,
+    /// The hints of an addition, or the ids that a deletion lists.
+    hints: Vec<i64>,
 }
 
-/// Reads the next step; None where only blanks are left. The literals that stand in it are put into `clause` as they are read,
-/// so that they are known also of a step that turns out to be unreadable.
-fn read_step(tokens: &mut Tokens, clause: &mut Vec<i64>) -> Result<Option<Step>, Ground> {
+/// Reads the next step; false where only blanks are left.
+fn read_step(tokens: &mut Tokens, step: &mut Step) -> Result<bool, Ground> {
     let Some(first) = tokens.next() else {
-        return Ok(None);
+        return Ok(false);
     };
-    let id = match number(first) {
+    step.id = match number(first) {
         Some(id) if (1..=GREATEST_ID).contains(&id) => id,
         _ => return Err(Ground::NoStepId),
     };
@@ -261,14 +268,13 @@ fn read_step(tokens: &mut Tokens, clause: &mut Vec<i64>) -> Result<Option<Step>,
     let mut behind = Tokens { rest: tokens.rest };
     if behind.next() == Some(b"d") {
         *tokens = behind;
-        let mut ids = Vec::new();
-        read_list(tokens, &mut ids, Ground::NoIdToDelete, |id| (1..=GREATEST_ID).contains(&id))?;
-        return Ok(Some(Step::Deletion { ids }));
+        step.is_deletion = true;
+        read_list(tokens, &mut step.hints, Ground::NoIdToDelete, |id| (1..=GREATEST_ID).contains(&id))?;
+    } else {
+        read_list(tokens, &mut step.clause, Ground::NoStepLiteral, |literal| literal.abs() <= GREATEST_VARIABLE)?;
+        read_list(tokens, &mut step.hints, Ground::NoHint, |hint| hint.abs() <= GREATEST_ID)?;
     }
-    read_list(tokens, clause, Ground::NoStepLiteral, |literal| literal.abs() <= GREATEST_VARIABLE)?;
-    let mut hints = Vec::new();
-    read_list(tokens, &mut hints, Ground::NoHint, |hint| hint.abs() <= GREATEST_ID)?;
-    Ok(Some(Step::Addition { id, hints }))
+    Ok(true)
 }
 
 /// Reads numbers up to the next 0. Each of them must be allowed, else the step is unreadable on the given ground.
@@ -416,7 +422,7 @@ fn judge_clause(live: &Live, clause: &[i64], hints: &[i64], accepted: &mut Accep
 
 /// The answer to a formula and a proof.
 pub fn check(formula: &[u8], proof: &[u8]) -> Verdict {
-    let mut verdict = Verdict { answer: 1, step: 0, ground: None, greatest_variable: 0, accepted: Accepted::default() };
+    let mut verdict = Verdict { answer: 1, step: 0, ground: None, greatest_variable: 0, greatest_weight: 0, greatest_step: 0, accepted: Accepted::default() };
     let formula = match read_formula(formula) {
         Ok(formula) => formula,
         Err(ground) => return Verdict { ground: Some(ground), ..verdict },
@@ -428,43 +434,43 @@ pub fn check(formula: &[u8], proof: &[u8]) -> Verdict {
     let mut live: Live = (1..).zip(formula.clauses).collect();
     let mut tokens = Tokens { rest: proof };
     for count in 1.. {
-        let mut clause = Vec::new();
-        let step = read_step(&mut tokens, &mut clause);
-        verdict.greatest_variable = verdict.greatest_variable.max(greatest(&clause));
-        let step = match step {
+        let weight = live.values().map(|clause| 1 + clause.len()).sum();
+        verdict.greatest_weight = verdict.greatest_weight.max(weight);
+        let mut step = Step::default();
+        let read = read_step(&mut tokens, &mut step);
+        verdict.greatest_variable = verdict.greatest_variable.max(greatest(&step.clause));
+        verdict.greatest_step = verdict.greatest_step.max(step.clause.len() + step.hints.len());
+        match read {
             Err(ground) => return Verdict { answer: 2, step: count, ground: Some(ground), ..verdict },
-            Ok(None) => return Verdict { answer: 4, step: count - 1, ground: Some(Ground::ProofEnds), ..verdict },
-            Ok(Some(step)) => step,
-        };
-        let refused = |ground: Ground, verdict: Verdict| Verdict { answer: 3, step: count, ground: Some(ground), ..verdict };
-        match step {
-            Step::Deletion { ids } => {
-                for id in ids {
-                    if live.remove(&id).is_none() {
-                        return refused(Ground::DeletedNotLive, verdict);
-                    }
-                    verdict.accepted.deleted += 1;
-                }
-                verdict.accepted.deletions += 1;
-            }
-            Step::Addition { id, hints } => {
-                // Rule 1.
-                if id <= greatest_id {
-                    return refused(Ground::IdNotFresh, verdict);
-                }
-                if holds_opposites(&clause) {
-                    return refused(Ground::OppositeLiterals, verdict);
-                }
-                if let Err(ground) = judge_clause(&live, &clause, &hints, &mut verdict.accepted) {
-                    return refused(ground, verdict);
-                }
-                if clause.is_empty() {
-                    return Verdict { answer: 0, step: count, ..verdict };
-                }
-                greatest_id = id;
-                live.insert(id, clause);
-            }
+            Ok(false) => return Verdict { answer: 4, step: count - 1, ground: Some(Ground::ProofEnds), ..verdict },
+            Ok(true) => {}
         }
+        let refused = |ground: Ground, verdict: Verdict| Verdict { answer: 3, step: count, ground: Some(ground), ..verdict };
+        if step.is_deletion {
+            for id in step.hints {
+                if live.remove(&id).is_none() {
+                    return refused(Ground::DeletedNotLive, verdict);
+                }
+                verdict.accepted.deleted += 1;
+            }
+            verdict.accepted.deletions += 1;
+            continue;
+        }
+        // Rule 1.
+        if step.id <= greatest_id {
+            return refused(Ground::IdNotFresh, verdict);
+        }
+        if holds_opposites(&step.clause) {
+            return refused(Ground::OppositeLiterals, verdict);
+        }
+        if let Err(ground) = judge_clause(&live, &step.clause, &step.hints, &mut verdict.accepted) {
+            return refused(ground, verdict);
+        }
+        if step.clause.is_empty() {
+            return Verdict { answer: 0, step: count, ..verdict };
+        }
+        greatest_id = step.id;
+        live.insert(step.id, step.clause);
     }
     unreachable!("steps are counted without end")
 }
