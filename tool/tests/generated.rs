@@ -4,7 +4,7 @@ mod common;
 
 use common::families;
 use common::generate::{self, Draft, Pair, Random};
-use common::library::{Fill, Lengths, Library};
+use common::library::{to_write, Fill, Lengths, Library};
 use common::reference::{self, Accepted, Ground, Verdict, GROUNDS};
 use std::collections::BTreeMap;
 use std::io::Write;
@@ -113,7 +113,7 @@ fn written(random: &mut Random, draft: &Draft) -> Pair {
     generate::write(random, &generate::tokens(draft))
 }
 
-/// Valid pairs and their mutations, drafts of half of the seeds.
+/// Valid pairs and their mutations. They are tested in two parts, so that two processors share the work.
 fn generated(first_seed: u64, count: u64) {
     let mut library = Library::default();
     let (mut valid, mut mutated) = (Distribution::default(), Distribution::default());
@@ -123,7 +123,12 @@ fn generated(first_seed: u64, count: u64) {
         let fill = some_fill(&mut random);
         let verdict = compare(&mut library, &pair.formula, &pair.proof, fill);
         let expected = (if draft.finished { 0 } else { 4 }, draft.steps.len() as u64);
-        assert_eq!((verdict.answer, verdict.step), expected, "{verdict:?} of a valid draft\n{}", show(&pair.formula, &pair.proof));
+        assert_eq!(
+            (verdict.answer, verdict.step),
+            expected,
+            "{verdict:?} of a valid draft\n{}",
+            show(&pair.formula, &pair.proof)
+        );
         valid.add(&verdict);
         if verdict.answer == 0 {
             assert_unsolvable(&pair.formula, &pair.proof);
@@ -165,7 +170,12 @@ fn generated(first_seed: u64, count: u64) {
                 changed.proof.push(random.next() as u8);
             }
             let verdict = reference::check(&changed.formula, &changed.proof);
-            assert_eq!((verdict.answer, verdict.step), expected, "with more behind it\n{}", show(&changed.formula, &changed.proof));
+            assert_eq!(
+                (verdict.answer, verdict.step),
+                expected,
+                "with more behind it\n{}",
+                show(&changed.formula, &changed.proof)
+            );
             pairs.push(changed);
         }
         for pair in pairs {
@@ -445,8 +455,13 @@ fn small_pairs() -> Vec<(Pair, Verdict)> {
         generate::mutate_proof_tokens(&mut random, &mut torn);
         let mut cut = written(&mut random, &draft);
         generate::mutate_bytes(&mut random, &mut cut.formula);
-        let candidates =
-            [written(&mut random, &draft), written(&mut random, &changed), generate::write(&mut random, &tokens), generate::write(&mut random, &torn), cut];
+        let candidates = [
+            written(&mut random, &draft),
+            written(&mut random, &changed),
+            generate::write(&mut random, &tokens),
+            generate::write(&mut random, &torn),
+            cut,
+        ];
         for pair in candidates {
             let verdict = reference::check(&pair.formula, &pair.proof);
             let size = pair.formula.len() + pair.proof.len();
@@ -538,7 +553,12 @@ fn long_proofs_need_no_more_than_their_live_clauses() {
         let draft = generate::long_draft(&mut random);
         let Pair { formula, proof } = written(&mut random, &draft);
         let verdict = compare(&mut library, &formula, &proof, some_fill(&mut random));
-        assert_eq!((verdict.answer, verdict.step), (if draft.finished { 0 } else { 4 }, draft.steps.len() as u64), "{}", show(&formula, &proof));
+        assert_eq!(
+            (verdict.answer, verdict.step),
+            (if draft.finished { 0 } else { 4 }, draft.steps.len() as u64),
+            "{}",
+            show(&formula, &proof)
+        );
         seen.add(&verdict);
         let expected = (verdict.answer, verdict.step);
         let enough = Lengths::by_live_clauses(formula.len(), &verdict);
@@ -564,7 +584,8 @@ fn long_proofs_need_no_more_than_their_live_clauses() {
         }
     }
     seen.print("long proofs with many deletions");
-    say(&format!("  with a store by the live clauses, less than half of the stated one: {shorter}; with less: {too_short} too short, {right} right"));
+    say(&format!("  {shorter} with a store by the live clauses that is less than half of the stated one"));
+    say(&format!("  with less than that: {too_short} times too short, {right} times right"));
     assert!(shorter >= 100, "only {shorter} proofs are long beside their live clauses");
     assert!(too_short > 0 && right > 0);
 }
@@ -607,15 +628,19 @@ fn good_pairs_cut_at_every_byte() {
         for length in 0..formula.len() {
             let verdict = compare(&mut library, &formula[..length], &proof, Fill::Byte(0xff));
             seen.add(&verdict);
-            // A cut may leave the formula whole, without blanks at its end, and no other formula that is readable.
-            let whole = formula[length..].iter().all(u8::is_ascii_whitespace) && !formula[..length].ends_with(b"-");
+            // A cut may take away blanks at the end; any other leaves no formula that is readable.
+            let whole = formula[length..].iter().all(u8::is_ascii_whitespace);
             assert_eq!(verdict.answer, if whole { 0 } else { 1 }, "cut at {length}\n{}", show(&formula, &proof));
         }
         for length in 0..proof.len() {
             let verdict = compare(&mut library, &formula, &proof[..length], Fill::Byte(0xff));
             seen.add(&verdict);
             let whole = proof[length..].iter().all(u8::is_ascii_whitespace);
-            assert!(whole == (verdict.answer == 0) && [0, 2, 4].contains(&verdict.answer), "cut at {length}\n{}", show(&formula, &proof));
+            assert!(
+                whole == (verdict.answer == 0) && [0, 2, 4].contains(&verdict.answer),
+                "cut at {length}\n{}",
+                show(&formula, &proof)
+            );
         }
     }
     seen.print(&format!("{pairs} good pairs cut at every byte"));
@@ -624,14 +649,9 @@ fn good_pairs_cut_at_every_byte() {
 
 // Writing.
 
-/// How much of the store a formula always needs at most, in `heads` and in `lits`.
-fn to_write(formula: &[u8]) -> (usize, usize) {
-    (formula.len() + 3, (formula.len() + 1) / 2)
-}
-
 /// Holds what the library writes, into an output with some room to spare, to what the reference writes.
 fn compare_written(library: &mut Library, formula: &[u8], fill: u8) -> Option<Vec<u8>> {
-    let (heads, lits) = to_write(formula);
+    let (heads, lits) = to_write(formula.len());
     let wanted = reference::read_formula(formula).ok().map(|read| reference::write_formula(&read));
     let room = wanted.as_ref().map_or(40, Vec::len) + 3;
     let written = library.write(formula, heads, lits, room, fill);
@@ -693,12 +713,16 @@ fn an_output_or_store_that_is_too_short_leaves_the_output_alone() {
     for (draft, mut random) in drafts(5_000_001, 400) {
         let formula = written(&mut random, &draft).formula;
         let text = reference::write_formula(&reference::read_formula(&formula).expect("a draft is readable"));
-        let (heads, lits) = to_write(&formula);
+        let (heads, lits) = to_write(formula.len());
         let fill = random.next() as u8;
         for length in 0..text.len() {
             let result = library.write(&formula, heads, lits, length, fill);
             assert_eq!(result.answer, 6, "an output of {length} bytes\n{}", show(&formula, b""));
-            assert!(result.out.iter().all(|&byte| byte == fill), "an output of {length} bytes was touched\n{}", show(&formula, b""));
+            assert!(
+                result.out.iter().all(|&byte| byte == fill),
+                "an output of {length} bytes was touched\n{}",
+                show(&formula, b"")
+            );
             tried += 1;
         }
         let result = library.write(&formula, heads, lits, text.len(), fill);
@@ -708,7 +732,11 @@ fn an_output_or_store_that_is_too_short_leaves_the_output_alone() {
             let result = library.write(&formula, heads, lits, text.len(), fill);
             if result.answer == 5 {
                 store_too_short += 1;
-                assert!(result.out.iter().all(|&byte| byte == fill), "with a short store, the output was touched\n{}", show(&formula, b""));
+                assert!(
+                    result.out.iter().all(|&byte| byte == fill),
+                    "with a short store, the output was touched\n{}",
+                    show(&formula, b"")
+                );
             } else {
                 assert_eq!((result.answer, result.length, &result.out), (0, text.len() as u64, &text), "{}", show(&formula, b""));
             }

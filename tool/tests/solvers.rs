@@ -3,7 +3,7 @@
 mod common;
 
 use common::generate::{self, Random};
-use common::library::{Fill, Lengths, Library};
+use common::library::{to_write, Fill, Lengths, Library};
 use common::reference::{self, Formula, Verdict};
 use common::{families, tracecheck};
 use std::collections::BTreeMap;
@@ -90,7 +90,9 @@ fn compare(library: &mut Library, name: &str, formula: &[u8], proof: &[u8]) -> V
         let folder = std::path::Path::new(env!("CARGO_TARGET_TMPDIR"));
         std::fs::write(folder.join("differs.cnf"), formula).expect("the formula can be kept");
         std::fs::write(folder.join("differs.lrat"), proof).expect("the proof can be kept");
-        panic!("{name}: the library answers {answer:?}, the reference {verdict:?}; see differs.cnf and differs.lrat in {folder:?}");
+        panic!(
+            "{name}: the library answers {answer:?}, the reference {verdict:?}; see differs.cnf and differs.lrat in {folder:?}"
+        );
     }
     verdict
 }
@@ -102,7 +104,8 @@ fn formulas_are_what_their_generators_make() {
         let text = reference::write_formula(&made);
         assert!(kept == text, "{name}.cnf is not what its generator makes");
         // Written by the library, it stays the same, since it is written that way already.
-        let written = library.write(kept, kept.len() + 3, (kept.len() + 1) / 2, kept.len(), 0);
+        let (heads, lits) = to_write(kept.len());
+        let written = library.write(kept, heads, lits, kept.len(), 0);
         assert_eq!((written.answer, written.length), (0, kept.len() as u64), "{name}");
         assert!(written.out == kept, "{name}.cnf is written in another way");
     }
@@ -126,7 +129,12 @@ fn proofs_are_verified_at_their_last_step() {
         let lines = proof.iter().filter(|&&byte| byte == b'\n').count() as u64;
         assert_eq!((verdict.answer, verdict.step), (0, lines), "{name}: {verdict:?}");
         deletions += verdict.accepted.deletions;
-        say(&format!("{name}: {} bytes, verified at step {}, {} clauses deleted", proof.len(), verdict.step, verdict.accepted.deleted));
+        say(&format!(
+            "{name}: {} bytes, verified at step {}, {} clauses deleted",
+            proof.len(),
+            verdict.step,
+            verdict.accepted.deleted
+        ));
     }
     assert!(deletions > 1000, "the proofs have {deletions} deletions only");
 }
@@ -191,7 +199,10 @@ fn cut_proofs_and_formulas() {
         for length in places(proof.len(), 300_000_000 / proof.len().pow(2) + 40) {
             let verdict = compare(&mut library, name, formula, &proof[..length]);
             let whole = proof[length..].iter().all(u8::is_ascii_whitespace);
-            assert!(whole == (verdict.answer == 0) && [0, 2, 4].contains(&verdict.answer), "{name}, cut at {length}: {verdict:?}");
+            assert!(
+                whole == (verdict.answer == 0) && [0, 2, 4].contains(&verdict.answer),
+                "{name}, cut at {length}: {verdict:?}"
+            );
             *answers.entry(verdict.answer).or_default() += 1;
         }
         for length in places(formula.len(), 600) {

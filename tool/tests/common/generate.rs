@@ -95,7 +95,11 @@ fn formula(random: &mut Random) -> (i64, Vec<Vec<i64>>) {
             let mut variables: Vec<i64> = (1..=used).collect();
             random.shuffle(&mut variables);
             for pattern in 0..1 << width {
-                clauses.push((0..width).map(|k| if pattern >> k & 1 == 1 { variables[k as usize] } else { -variables[k as usize] }).collect());
+                clauses.push(
+                    (0..width)
+                        .map(|k| if pattern >> k & 1 == 1 { variables[k as usize] } else { -variables[k as usize] })
+                        .collect(),
+                );
             }
         }
         // Two variables that are said to be equal and to be different, round a ring.
@@ -360,8 +364,13 @@ impl Prover<'_> {
         }
         let mut trues: Trues = decisions.iter().copied().collect();
         self.propagate(&mut trues);
-        let mut open: Vec<i64> =
-            self.live.values().flatten().copied().filter(|literal| !trues.contains(literal) && !trues.contains(&-literal)).collect();
+        let mut open: Vec<i64> = self
+            .live
+            .values()
+            .flatten()
+            .copied()
+            .filter(|literal| !trues.contains(literal) && !trues.contains(&-literal))
+            .collect();
         if open.is_empty() {
             return false;
         }
@@ -400,7 +409,8 @@ pub fn long_draft(random: &mut Random) -> Draft {
 
 fn draft_of(random: &mut Random, rounds: usize) -> Draft {
     let (variables, clauses) = formula(random);
-    let greatest_variable = if random.percent(50) { variables } else { clauses.iter().flatten().map(|l| l.abs()).max().unwrap_or(1) };
+    let greatest_variable =
+        if random.percent(50) { variables } else { clauses.iter().flatten().map(|l| l.abs()).max().unwrap_or(1) };
     let live: BTreeMap<i64, Vec<i64>> = (1..).zip(clauses.iter().cloned()).collect();
     let greatest_id = clauses.len() as i64;
     let mut prover = Prover { random, live, greatest_id, greatest_variable: greatest_variable.max(1), steps: Vec::new() };
@@ -477,9 +487,8 @@ pub fn mutate_steps(random: &mut Random, draft: &mut Draft) {
         }
         _ => {}
     }
-    let groups_first = random.percent(50);
     // Half of the time a step with groups is changed, where there is one, since they are few and have the most to get wrong.
-    let place = if groups_first {
+    let place = if random.percent(50) {
         (0..draft.steps.len())
             .map(|k| (place + k) % draft.steps.len())
             .find(|&k| matches!(&draft.steps[k], Step::Addition { hints, .. } if hints.iter().any(|&hint| hint < 0)))
@@ -590,9 +599,41 @@ pub fn tokens(draft: &Draft) -> Tokens {
 }
 
 /// Tokens at the edges of what section 2 allows.
-const EDGES: [&str; 30] = [
-    "0", "-0", "00", "01", "-01", "+1", "-", "--1", "1-", "1-2", "d", "D", "dd", "d1", "p", "c", "cnf", "%", "16777215", "16777216",
-    "-16777215", "-16777216", "268435455", "268435456", "-268435455", "-268435456", "4294967297", "18446744073709551617", "1e1", "0x1",
+const EDGES: [&str; 34] = [
+    "0",
+    "-0",
+    "00",
+    "01",
+    "-01",
+    "+1",
+    "-",
+    "--1",
+    "1-",
+    "1-2",
+    "d",
+    "D",
+    "dd",
+    "d1",
+    "p",
+    "c",
+    "cnf",
+    "%",
+    "16777215",
+    "16777216",
+    "-16777215",
+    "-16777216",
+    "268435455",
+    "268435456",
+    "-268435455",
+    "-268435456",
+    "4294967297",
+    "18446744073709551617",
+    "999999999999999999",
+    "1000000000000000000",
+    "-9223372036854775808",
+    "100000000000000000000000000000000000000000000000001",
+    "1e1",
+    "0x1",
 ];
 
 fn changed(random: &mut Random, token: &str) -> String {

@@ -165,13 +165,18 @@ impl Lengths {
         let (kept, step) = (2 * verdict.greatest_weight, verdict.greatest_step);
         Lengths {
             heads: (formula + 3).max(2 * kept + 4),
-            lits: ((formula + 1) / 2).max(kept + step + 1),
+            lits: formula.div_ceil(2).max(kept + step + 1),
             hints: step + 1,
             guess: verdict.greatest_weight / 2,
             marks: 2 * verdict.greatest_variable as usize + 2,
             tape: kept + 2 * step,
         }
     }
+}
+
+/// How much of the store always does to write a formula of so many bytes, in `heads` and in `lits`.
+pub fn to_write(formula: usize) -> (usize, usize) {
+    (formula + 3, formula.div_ceil(2))
 }
 
 /// The store that the calls use, kept from one to the next only to spare asking for memory.
@@ -204,7 +209,7 @@ impl Library {
         let (mut step, mut turns) = (u64::MAX, u64::MAX);
         let formula_lent = self.texts[0].lend(formula);
         let proof_lent = self.texts[1].lend(proof);
-        // SAFETY: each pointer is aligned, not null, and followed by as many initialised elements as is said; all of them lie
+        // SAFETY: Each pointer is aligned, not null, and followed by as many initialised elements as is said; all of them lie
         // in vectors of their own, which nobody touches before the call is over.
         let answer = unsafe {
             proofscale_check(
@@ -239,7 +244,7 @@ impl Library {
     pub fn write(&mut self, formula: &[u8], heads: usize, lits: usize, out_length: usize, fill: u8) -> Written {
         let mut length = u64::MAX;
         let formula_lent = self.texts[0].lend(formula);
-        // SAFETY: as above.
+        // SAFETY: The same holds here as in `check`.
         let answer = unsafe {
             proofscale_write(
                 formula_lent,

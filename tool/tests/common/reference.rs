@@ -240,7 +240,8 @@ pub fn has_solution(formula: &Formula) -> bool {
             (positive, negative)
         })
         .collect();
-    (0..1u32 << variables.len()).any(|trues| masks.iter().all(|&(positive, negative)| trues & positive != 0 || !trues & negative != 0))
+    (0..1u32 << variables.len())
+        .any(|trues| masks.iter().all(|&(positive, negative)| trues & positive != 0 || !trues & negative != 0))
 }
 
 // Section 4.
@@ -422,7 +423,15 @@ fn judge_clause(live: &Live, clause: &[i64], hints: &[i64], accepted: &mut Accep
 
 /// The answer to a formula and a proof.
 pub fn check(formula: &[u8], proof: &[u8]) -> Verdict {
-    let mut verdict = Verdict { answer: 1, step: 0, ground: None, greatest_variable: 0, greatest_weight: 0, greatest_step: 0, accepted: Accepted::default() };
+    let mut verdict = Verdict {
+        answer: 1,
+        step: 0,
+        ground: None,
+        greatest_variable: 0,
+        greatest_weight: 0,
+        greatest_step: 0,
+        accepted: Accepted::default(),
+    };
     let formula = match read_formula(formula) {
         Ok(formula) => formula,
         Err(ground) => return Verdict { ground: Some(ground), ..verdict },

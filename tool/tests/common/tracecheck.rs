@@ -20,8 +20,10 @@ pub fn to_lrat(formula: &Formula, trace: &str) -> String {
     let mut clauses: HashMap<i64, Vec<i64>> = HashMap::new();
     let mut proof = String::new();
     let mut next = formula.clauses.len() as i64;
-    let mut lines: Vec<Vec<i64>> =
-        trace.lines().map(|line| line.split_whitespace().map(|word| word.parse().expect("a trace holds numbers")).collect()).collect();
+    let mut lines: Vec<Vec<i64>> = trace
+        .lines()
+        .map(|line| line.split_whitespace().map(|word| word.parse().expect("a trace holds numbers")).collect())
+        .collect();
     // Antecedents have smaller numbers than what is derived from them.
     lines.sort();
     for line in lines {
