@@ -637,7 +637,8 @@ const EDGES: [&str; 34] = [
 ];
 
 fn changed(random: &mut Random, token: &str) -> String {
-    let value = token.parse::<i64>();
+    // Wider than any token of the edges, so that none of them overflows when it is changed once more.
+    let value = token.parse::<i128>();
     match (random.below(6), value) {
         (0, Ok(value)) => (-value).to_string(),
         (1, Ok(value)) => (value + 1).to_string(),
