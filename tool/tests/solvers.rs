@@ -196,7 +196,8 @@ fn cut_proofs_and_formulas() {
     let mut answers: BTreeMap<u64, u64> = BTreeMap::new();
     for (name, proof) in proofs() {
         let formula = formula(name);
-        for length in places(proof.len(), 300_000_000 / proof.len().pow(2) + 40) {
+        // Every byte of the shorter ones; of the longer ones as many places as take about the same time.
+        for length in places(proof.len(), 8_000_000_000 / proof.len().pow(2) + 40) {
             let verdict = compare(&mut library, name, formula, &proof[..length]);
             let whole = proof[length..].iter().all(u8::is_ascii_whitespace);
             assert!(
