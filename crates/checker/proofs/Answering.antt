@@ -116,9 +116,11 @@ all-turns : (f p : List ℕ) (n used before all : ℕ) → 2 * (used + n) ≤ le
     → all ≤ before + n + proofTurns p (n + used) → all ≤ timeBound (length f) (length p)
 unfolding rate
 all-turns f p n used before all h b t =
-    omega (arith,
-    tokens-few p,
-    mul-le-mul {n₁ = length (tokens p)} {m₁ = 2 * (n + used + length (tokens p)) + 73} {n₂ = length p + 1} {m₂ = length f + length p + 75} (omega (arith, tokens-few p)) (omega (arith, tokens-few p)))
+    omega (
+      arith,
+      tokens-few p,
+      mul-le-mul {n₁ = length (tokens p)} {m₁ = 2 * (n + used + length (tokens p)) + 73} {n₂ = length p + 1} {m₂ = length f + length p + 75} (omega (arith, tokens-few p)) (omega (arith, tokens-few p)),
+    )
 
 module _ (f p heads lits hints marks tape : List ℕ) (r : FormulaRead) (heads′ lits′ : List ℕ) (rd : Reads f heads lits heads′ lits′ r)
     (hl : length heads′ ≡ length heads) (ll : length lits′ ≡ length lits) where

@@ -21,8 +21,9 @@ use Rattle.rules.proofs.Running.{step-shorter}
 use Rattle.rules.proofs.Soundness.{verdict-sound}
 use Rattle.clauses.proofs.Numbers.{cut}
 use Rattle.steps.specs.Reading.{LargeIn}
+use Rattle.steps.proofs.Readings.{begins-fewer}
 use Rattle.stepping.specs.Stepping.{Lacks}
-use Rattle.checker.specs.Promises.{said, Exact, Means, timeBound, stepOf, StandsIn, Leads, here, then, Enough, Room, NoMark, ShortAt, ShortLater, Short, FollowsLive}
+use Rattle.checker.specs.Promises.{said, Exact, Means, timeBound, stepOf, StandsIn, Leads, here, then, headsFor, litsFor, hintsFor, tapeFor, marksFor, Enough, Room, NoMark, ShortAt, ShortLater, Short, FollowsLive}
 use Rattle.checker.specs.Answering.{Cells, ChecksMarked}
 use Rattle.checker.specs.declared.Answer.{Answer}
 use Rattle.checker.specs.declared.Answer.the-variants.{Verified, TooShort}
@@ -57,7 +58,7 @@ module _ (f p heads lits hints marks tape : List ℕ) (cells : ℕ) (c : Cells (
   lacks-marks : (n used : ℕ) (ts : List Token) → Lacks heads lits hints tape cells n used ts → Lacks heads lits hints tape (length marks) n used ts
   lacks-marks n used ts x = record {
     codes = x .codes;
-    few = x .few;
+    step = x .step;
     short =
         ⊎-elim
         (λ a. inl a)
@@ -132,39 +133,42 @@ module _ (f p heads lits hints marks tape : List ℕ) (e : Enough f p heads lits
   short-never : (x : ShortLater f p heads lits hints tape (length marks)) → ShortAt heads lits hints tape (length marks) (start (x .formula)) (tokens p) (x .all) → ⊥
   short-never x y =
       ⊎-elim
-      (λ h. omega (arith, e .in-heads, x .few, y .few, y .lacks .few))
+      (λ h. omega (arith, e .in-heads, x .few, y .few, codes-few))
       (λ q.
       ⊎-elim
-      (λ l. omega (arith, e .in-lits, x .few, y .few, y .lacks .few))
+      (λ l. omega (arith, e .in-lits, x .few, y .few, codes-few))
       (λ r.
       ⊎-elim
       (λ i. hints-never i)
-      (λ s. ⊎-elim (λ t. omega (arith, e .in-tape, x .few, y .few, y .lacks .few)) (λ g. large-never g) s)
+      (λ s. ⊎-elim (λ t. omega (arith, e .in-tape, x .few, y .few, codes-few)) (λ g. large-never g) s)
       r)
       q)
       (y .lacks .short)
     where
+      codes-few : y .lacks .codes + 1 ≤ length (y .rest)
+      codes-few = begins-fewer (y .rest) (y .lacks .codes) (y .lacks .step)
+
       large-never : LargeIn (length marks) (y .rest) → ⊥
       large-never g =
           let stands : StandsIn (variable (g .large .large)) (y .rest) =
-              record {
-                front = g .front;
-                token = g .token;
-                rest = g .rest;
-                is = g .is;
-                sofar = g .sofar;
-                begins = g .reached;
-                id = g .large .id;
-                others = g .large .others;
-                here = g .large .large;
-                goes-on = g .large .is;
-                says = g .large .says;
-                is-variable = refl;
-              } in
+          record {
+            front = g .front;
+            token = g .token;
+            rest = g .rest;
+            is = g .is;
+            sofar = g .sofar;
+            begins = g .reached;
+            id = g .large .id;
+            others = g .large .others;
+            here = g .large .large;
+            goes-on = g .large .is;
+            says = g .large .says;
+            is-variable = refl;
+          } in
           omega (arith, e .in-marks (variable (g .large .large)) (inr (record { formula = x .formula; is = x .is; state = y .state; rest = y .rest; leads = y .leads; stands = stands })), g .large .above)
 
       hints-never : length hints ≤ y .lacks .codes → ⊥
-      hints-never h = omega (arith, e .in-hints, y .lacks .few, leads-fewer (start (x .formula)) (tokens p) (y .state) (y .rest) (y .leads), tokens-few p)
+      hints-never h = omega (arith, e .in-hints, codes-few, leads-fewer (start (x .formula)) (tokens p) (y .state) (y .rest) (y .leads), tokens-few p)
 
   pub enough-never : Short f p heads lits hints tape (length marks) → ⊥
   enough-never x =
@@ -192,3 +196,8 @@ promises f p heads lits hints marks tape cells c a turns x =
 
     short : FollowsLive f p heads lits hints marks tape a
     short q = short-marks f p heads lits hints marks tape cells c (rw long at (x .short q))
+
+-- The stated lengths, in bytes: 8 for each number of `heads`, 4 for each of `lits`, `hints` and `tape`, 1 for each mark. They add up
+-- to no more than document 01's figure, 16 for each byte of the two files, 8 for each variable and 4,096.
+pub store-bytes : (f p v : ℕ) → 8 * headsFor f p + 4 * litsFor f p + 4 * hintsFor p + 4 * tapeFor f p + marksFor v ≤ 16 * (f + p) + 8 * v + 4096
+store-bytes f p v = omega arith

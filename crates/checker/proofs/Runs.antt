@@ -71,7 +71,7 @@ lacks-same : (heads lits hints tape heads₀ lits₀ hints₀ tape₀ : List ℕ
     → Lacks heads lits hints tape cells n used ts → Lacks heads₀ lits₀ hints₀ tape₀ cells₀ n used ts
 lacks-same heads lits hints tape heads₀ lits₀ hints₀ tape₀ cells cells₀ n used ts a b c d e x = record {
   codes = x .codes;
-  few = x .few;
+  step = x .step;
   short =
       ⊎-elim
       (λ h. inl (omega (arith, a)))

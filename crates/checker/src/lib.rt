@@ -165,7 +165,19 @@ fn check_marked(
             top,
         } => {
             let turns = clauses::plus(cleared, reading(bytes, used, clauses));
-            check_stored(proof, heads, lits, hints, guess, marks, tape, clauses, used, top, turns)
+            check_stored(
+                proof,
+                heads,
+                lits,
+                hints,
+                guess,
+                marks,
+                tape,
+                clauses,
+                used,
+                top,
+                turns,
+            )
         }
         FormulaRead::Unreadable { at, used, closed } => Checked {
             answer: Answer::UnreadableFormula,

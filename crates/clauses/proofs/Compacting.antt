@@ -278,9 +278,9 @@ module _ (heads₀ lits₀ : List ℕ) (n used₀ last₀ : ℕ) (s : Store head
         new : (j : ℕ) → i ≡ w + j → getD lits′ i 0 < b
         new j e =
             let here : getD lits′ i 0 ≡ getD lits₀ (startAt heads₀ k + j) 0 =
-                ap (λ (x : ℕ). getD lits′ x 0) e
-                ∙ (moved .moved j (omega (arith, size-is, start-there, end-there))
-                ∙ (ap (λ (x : ℕ). getD lits (x + j) 0) start-there ∙ c .lits-rest (startAt heads₀ k + j) (omega arith))) in
+            ap (λ (x : ℕ). getD lits′ x 0) e
+            ∙ (moved .moved j (omega (arith, size-is, start-there, end-there))
+            ∙ (ap (λ (x : ℕ). getD lits (x + j) 0) start-there ∙ c .lits-rest (startAt heads₀ k + j) (omega arith))) in
             rw here (f (startAt heads₀ k + j) (omega (arith, size-is)))
 
     pub compacting-keep : Compacting heads₀ lits₀ n (set (set heads (2 * m) (idAt heads k)) (2 * m + 3) (w + (startAt heads (k + 1) - startAt heads k))) lits′ (k + 1) (m + 1) (w + (startAt heads (k + 1) - startAt heads k)) (moves + (startAt heads (k + 1) - startAt heads k)) (turns + 1)

@@ -44,10 +44,12 @@ adding-turns : (n used new many all turns bytes : ℕ) → n + used + (new + man
     → turns ≤ bytes + (new + many + 3) * rate all
 unfolding costs rate
 adding-turns n used new many all turns bytes h t =
-    omega (arith,
-    add-mul (new + many) 3 (2 * all + 73),
-    mul-le-mul {n₁ = many} {m₁ = 2 * (used + new) + 70} {n₂ = new + many} {m₂ = 2 * all + 70} (omega arith) (omega arith),
-    mul-more (new + many) (2 * all + 70))
+    omega (
+      arith,
+      add-mul (new + many) 3 (2 * all + 73),
+      mul-le-mul {n₁ = many} {m₁ = 2 * (used + new) + 70} {n₂ = new + many} {m₂ = 2 * all + 70} (omega arith) (omega arith),
+      mul-more (new + many) (2 * all + 70),
+    )
   where
     mul-more : (a x : ℕ) → a * (x + 3) ≡ a * x + 3 * a
     mul-more a x = mul-comm a (x + 3) ∙ (add-mul x 3 a ∙ ap (λ (y : ℕ). y + 3 * a) (mul-comm x a))
@@ -66,7 +68,7 @@ module _ (proof : List ℕ) (at next : ℕ) (b : Between) (codes turns : ℕ) (l
       → turns + 2 * (length proof - next) + length (tokens (drop next proof)) * rate all ≤ 2 * (length proof - at) + length (tokens (drop at proof)) * rate all
   step-most all h =
       let product : length (tokens (drop at proof)) * rate all ≡ length (tokens (drop next proof)) * rate all + (codes + 3) * rate all =
-          ap (λ (x : ℕ). x * rate all) (sym split) ∙ add-mul (length (tokens (drop next proof))) (codes + 3) (rate all) in
+      ap (λ (x : ℕ). x * rate all) (sym split) ∙ add-mul (length (tokens (drop next proof))) (codes + 3) (rate all) in
       omega (arith, product, cost all (omega (arith, split)))
 
   step-last : LastTurns proof at b turns
@@ -160,9 +162,9 @@ module _ (proof : List ℕ) (at : ℕ) (b : Between) (heads lits hints marks tap
 
       lacks : AddShort heads tape b end many → Lacks heads lits hints tape (length marks) (b .n) (b .used) (tokens (drop at proof))
       lacks x = record {
-        codes = (end - b .used) + many;
-        few = omega (arith, split);
-        short = ⊎-elim (λ h. inl (h .short)) (λ t. inr (inr (inr (inl (omega (arith, a .placed .count)))))) x;
+        codes = length (a .new) + length (a .told);
+        step = a .begun;
+        short = ⊎-elim (λ h. inl (h .short)) (λ t. inr (inr (inr (inl (omega (arith, a .placed .count, a .noted .count)))))) x;
       }
 
       went : (o : Outcome) → Adds heads lits′ hints′ marks tape b id end many heads′ marks′ o
@@ -178,18 +180,20 @@ module _ (proof : List ℕ) (at : ℕ) (b : Between) (heads lits hints marks tap
         at-least = omega (arith, split, spent-tokens (next - at) ((end - b .used) + many) (allTurns (b .n) end many) turns s few-tokens);
         at-most = step-most proof at next b ((end - b .used) + many) turns (a .later) (a .within) split cost;
       }
-      went Verified x =
-          (record {
-            last = record { rest = tokens (drop next proof); has = has };
-            is = ap (λ (q : State). judge q (addition lits′ hints′ b id end many)) (sym (read-state lits′ (a .new) end (a .placed))) ∙ x .case;
-          },
-          last)
-      went (Refused g) x =
-          (record {
-            last = record { rest = tokens (drop next proof); has = has };
-            is = ap (λ (q : State). judge q (addition lits′ hints′ b id end many)) (sym (read-state lits′ (a .new) end (a .placed))) ∙ x .case;
-          },
-          last)
+      went Verified x = (
+        record {
+          last = record { rest = tokens (drop next proof); has = has };
+          is = ap (λ (q : State). judge q (addition lits′ hints′ b id end many)) (sym (read-state lits′ (a .new) end (a .placed))) ∙ x .case;
+        },
+        last,
+      )
+      went (Refused g) x = (
+        record {
+          last = record { rest = tokens (drop next proof); has = has };
+          is = ap (λ (q : State). judge q (addition lits′ hints′ b id end many)) (sym (read-state lits′ (a .new) end (a .placed))) ∙ x .case;
+        },
+        last,
+      )
       went TooShort x = (lacks (x .case), last)
       went Unreadable x = absurd (x .case)
       went Nothing x = absurd (x .case)
@@ -254,12 +258,13 @@ module _ (proof : List ℕ) (at : ℕ) (b : Between) (heads lits hints marks tap
         at-most = step-most proof at next b many turns (d .later) (d .within) split-ids cost-ids;
       }
       left Verified x = absurd (x .case)
-      left (Refused g) x =
-          (record {
-            last = record { rest = tokens (drop next proof); has = had };
-            is = ap (λ (q : State). judge q (deletion hints′ many)) (sym same-state) ∙ x .case;
-          },
-          step-last proof at next b many turns (d .later) (d .within) split-ids cost-ids)
+      left (Refused g) x = (
+        record {
+          last = record { rest = tokens (drop next proof); has = had };
+          is = ap (λ (q : State). judge q (deletion hints′ many)) (sym same-state) ∙ x .case;
+        },
+        step-last proof at next b many turns (d .later) (d .within) split-ids cost-ids,
+      )
       left TooShort x = absurd (x .case)
       left Unreadable x = absurd (x .case)
       left Nothing x = absurd (x .case)
@@ -309,23 +314,23 @@ module _ (proof : List ℕ) (at : ℕ) (b : Between) (heads lits hints marks tap
       pub short-stopped : r ≡ ShortStep stop end many → StepStopped proof at (b .used) lits hints lits′ hints′ stop end many
       short-stopped e = let x : StepShort (length marks) proof at (b .used) lits hints lits′ hints′ stop end many = rw e at (rd .case) in x .stopped
 
+      short-lacks : StepShort (length marks) proof at (b .used) lits hints lits′ hints′ stop end many → Lacks heads lits hints tape (length marks) (b .n) (b .used) (tokens (drop at proof))
+      short-lacks x = record {
+        codes = length (x .stopped .new) + length (x .stopped .told);
+        step = x .begun;
+        short =
+            ⊎-elim
+            (λ l. inr (inl (omega (arith, x .stopped .placed .count))))
+            (λ y. ⊎-elim (λ h. inr (inr (inl (omega (arith, x .stopped .noted .count))))) (λ g. inr (inr (inr (inr g)))) y)
+            (x .short);
+      }
+
       pub short-taken : r ≡ ShortStep stop end many → (heads′ lits″ marks′ : List ℕ) (o : Outcome) (place turns : ℕ) → o ≡ TooShort
           → Spent (length proof - at) ((end - b .used) + many) (length proof - at) turns → TakesStep proof at b heads lits hints marks tape heads′ lits″ marks′ o place turns
       short-taken e heads′ lits″ marks′ o place turns eo s =
           let x : StepShort (length marks) proof at (b .used) lits hints lits′ hints′ stop end many = rw e at (rd .case) in
-          let p = x .stopped in
           rw eo
           (record {
-            case =
-              (record {
-                codes = (end - b .used) + many;
-                few = omega (arith, p .placed .count, p .noted .count, p .at-least, x .left);
-                short =
-                    ⊎-elim
-                    (λ l. inr (inl (omega (arith, p .placed .count))))
-                    (λ y. ⊎-elim (λ h. inr (inr (inl (omega arith)))) (λ g. inr (inr (inr (inr g)))) y)
-                    (x .short);
-              },
-              stopped-last proof at b ((end - b .used) + many) turns (stopped-codes p) s);
+            case = (short-lacks x, stopped-last proof at b ((end - b .used) + many) turns (stopped-codes (x .stopped)) s);
             counted = spent-one (length proof - at) ((end - b .used) + many) (length proof - at) turns s;
           })

@@ -14,7 +14,7 @@ use Rattle.clauses.specs.Counting.{Reaches}
 use Rattle.clauses.specs.Store.{liveOf, Store}
 use Rattle.assignment.specs.Marks.{Shows, Paired}
 use Rattle.deletion.specs.Deleting.{deadOf, stateOf}
-use Rattle.steps.specs.Reading.{LargeIn}
+use Rattle.steps.specs.Reading.{BeginsStep, LargeIn}
 use Rattle.addition.specs.Verdicts.{groundOf}
 use Rattle.addition.specs.Addition.{clauseIn}
 use Rattle.addition.specs.declared.Verdict.{Verdict}
@@ -212,11 +212,11 @@ pub record TakenRefused (ts : List Token) (s : State) (g : Ground) : Type 0 wher
   pub last : TakenLast ts
   pub is : judge s (last .has .step) ≡ refused g
 
--- A part of the work store is too short for a step of which so many literals, hints or ids were read; or there is no mark for
--- one of its literals.
+-- A part of the work store is too short for a step that begins with at least so many tokens, beside a store of n clauses and
+-- `used` literals; or there is no mark for one of its literals.
 pub record Lacks (heads lits hints tape : List ℕ) (cells n used : ℕ) (ts : List Token) : Type 0 where
   pub codes : ℕ
-  pub few : codes + 1 ≤ length ts
+  pub step : BeginsStep ts codes
   pub short : (length heads ≤ 2 * n + 3) ⊎ ((length lits ≤ used + codes) ⊎ ((length hints ≤ codes) ⊎ ((length tape < used + 2 * codes) ⊎ LargeIn cells ts)))
 
 -- Tokens are left that begin with no step.

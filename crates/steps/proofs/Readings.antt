@@ -20,7 +20,7 @@ use Rattle.clauses.specs.Codes.{literalOf, hintOf, half}
 use Rattle.formula.proofs.Fillings.{placed-length}
 use Rattle.steps.specs.Partials.{Partial, atStart, resume, Advance, ends, unreadable, advance, afterwards, reach, taken}
 use Rattle.steps.specs.Feeding.{phaseOf, partialOf, Begun, Stands, Midway, GoesOn, Adds, Deletes, FeedCase, Feeds}
-use Rattle.steps.specs.Reading.{AtEndCase, AtEnd, UnreadCase, Unread, StepNone, StepStopped, LargeIn, StepShort, StepCase, ReadsStep}
+use Rattle.steps.specs.Reading.{BeginsStep, AtEndCase, AtEnd, UnreadCase, Unread, StepNone, StepStopped, LargeIn, StepShort, StepCase, ReadsStep}
 use Rattle.steps.specs.declared.feeding.Kind.{Kind}
 use Rattle.steps.specs.declared.feeding.Kind.the-variants.{Start, Body, Literals, Hints, Ids}
 use Rattle.steps.specs.declared.feeding.Phase.{Phase}
@@ -62,14 +62,21 @@ module _ (t : Found) (at i next end many : ℕ) (b : Bool) (e : AtEnd t b) where
   pub unread-nothing : b ≡ true → i ≡ at → Unread t at i next end many (NoStep next)
   unread-nothing q h = record { case = (subst (AtEndCase t) q (e .case), h, refl) }
 
+-- More tokens are left than the step has codes so far.
+pub begins-fewer : (ts : List Token) (codes : ℕ) → BeginsStep ts codes → codes + 1 ≤ length ts
+begins-fewer ts codes b = omega (arith, ap length (b .split), length-append (b .front) (b .rest), b .few, b .left)
+
 -- Where a token did not fit, a slice is shorter than the tokens of the step ask for, or there is a literal too large for `cells`.
 pub step-short : (cells : ℕ) (s : List ℕ) (at used : ℕ) (lits hints lits′ hints′ : List ℕ) (stop end many : ℕ) → StepShort cells s at used lits hints lits′ hints′ stop end many
     → (length lits < used + length (tokens (drop at s))) ⊎ ((length hints < length (tokens (drop at s))) ⊎ LargeIn cells (tokens (drop at s)))
 step-short cells s at used lits hints lits′ hints′ stop end many h =
     ⊎-elim
-    (λ l. inl (omega (arith, l, h .stopped .placed .count, h .stopped .at-least, h .left)))
-    (λ w. inr (⊎-elim (λ l. inl (omega (arith, l, h .stopped .noted .count, h .stopped .at-least, h .left))) inr w))
+    (λ l. inl (omega (arith, l, h .stopped .placed .count, fewer)))
+    (λ w. inr (⊎-elim (λ l. inl (omega (arith, l, h .stopped .noted .count, fewer))) inr w))
     (h .short)
+  where
+    fewer : length (h .stopped .new) + length (h .stopped .told) + 1 ≤ length (tokens (drop at s))
+    fewer = begins-fewer (tokens (drop at s)) (length (h .stopped .new) + length (h .stopped .told)) (h .begun)
 
 -- A scan stays in the text.
 
@@ -220,6 +227,15 @@ module _ (cells : ℕ) (s : List ℕ) (at used : ℕ) (lits₀ hints₀ lits hin
             noted = a .noted;
             below = a .below;
             turns = omega (arith, token-counts next (ends (add m (map literalOf (a .new)) (map hintOf (a .told)))) (a .is), length-map (a .new) literalOf, length-map (a .told) hintOf, read-count, token-count, ap length (next .is));
+            begun = record {
+              front = r .front;
+              rest = tokens (drop i s);
+              split = r .split;
+              sofar = r .sofar;
+              reached = r .reached;
+              few = omega (arith, token-counts next (ends (add m (map literalOf (a .new)) (map hintOf (a .told)))) (a .is), length-map (a .new) literalOf, length-map (a .told) hintOf, read-count);
+              left = omega (arith, ap length (next .is));
+            };
             later = omega (arith, r .later, next .later);
             within = next .within;
           };
@@ -244,6 +260,7 @@ module _ (cells : ℕ) (s : List ℕ) (at used : ℕ) (lits₀ hints₀ lits hin
 
     -- A slice is too short.
     pub reading-short : fed ≡ TooShort → ReadsStep cells s at used lits₀ hints₀ lits′ hints′ (Lacking i (phase .end) (phase .many))
+    unfolding stopped
     reading-short e =
         let next = found-some (λ q. let z : _≡_ {A = ℕ} 0 1 = cc in omega arith) in
         let f : FeedCase phase t cells lits hints lits′ hints′ TooShort = subst (FeedCase phase t cells lits hints lits′ hints′) e (feeds .case) in
@@ -264,8 +281,16 @@ module _ (cells : ℕ) (s : List ℕ) (at used : ℕ) (lits₀ hints₀ lits hin
                 }))
                 w))
                 (f .0 (midway next));
-            left = omega (arith, ap length (next .is));
             stopped = stopped lits′ hints′ (f .1) (f .2);
+            begun = record {
+              front = r .front;
+              rest = tokens (drop i s);
+              split = r .split;
+              sofar = r .sofar;
+              reached = r .reached;
+              few = code-count .0;
+              left = omega (arith, ap length (next .is));
+            };
           };
         }
 

@@ -36,6 +36,16 @@ UnreadCase t at i next end many (TooShort x e m) = ⊥
 pub record Unread (t : Found) (at i next end many : ℕ) (r : StepRead) : Type 0 where
   pub case : UnreadCase t at i next end many r
 
+-- The tokens begin with the beginning of a step that has at least so many tokens, and more are left.
+pub record BeginsStep (ts : List Token) (codes : ℕ) : Type 0 where
+  pub front : List Token
+  pub rest : List Token
+  pub split : ts ≡ front ++ rest
+  pub sofar : Partial
+  pub reached : reach atStart front ≡ some sofar
+  pub few : codes ≤ length front
+  pub left : 1 ≤ length rest
+
 -- An addition was read from `at` on, and its literals and hints were stored. A token was taken for the id, for each literal and
 -- each hint, and for the two 0.
 pub record StepAdded (cells : ℕ) (s : List ℕ) (at used : ℕ) (lits hints lits′ hints′ : List ℕ) (n end many next : ℕ) : Type 0 where
@@ -47,6 +57,7 @@ pub record StepAdded (cells : ℕ) (s : List ℕ) (at used : ℕ) (lits hints li
   pub noted : Placed hints 0 told hints′ many
   pub below : AllBelow cells new
   pub turns : length (tokens (drop next s)) + (length new + length told + 3) ≡ length (tokens (drop at s))
+  pub begun : BeginsStep (tokens (drop at s)) (length new + length told)
   pub later : at < next
   pub within : next ≤ length s
 
@@ -101,8 +112,8 @@ pub record LargeIn (cells : ℕ) (ts : List Token) : Type 0 where
 -- the token is a literal too large for `cells`. `step-short` in proofs/ compares the slices with the tokens from `at` on.
 pub record StepShort (cells : ℕ) (s : List ℕ) (at used : ℕ) (lits hints lits′ hints′ : List ℕ) (stop end many : ℕ) : Type 0 where
   pub short : (length lits ≤ end) ⊎ ((length hints ≤ many) ⊎ LargeIn cells (tokens (drop at s)))
-  pub left : 1 ≤ length (tokens (drop stop s))
   pub stopped : StepStopped s at used lits hints lits′ hints′ stop end many
+  pub begun : BeginsStep (tokens (drop at s)) (length (stopped .new) + length (stopped .told))
 
 -- What reading a step came to, by the answer.
 abbrev pub StepCase : ℕ → List ℕ → ℕ → ℕ → List ℕ → List ℕ → List ℕ → List ℕ → StepRead → Type 0

@@ -1,0 +1,2 @@
+-- The definitions of the crate: answers as numbers.
+pub mod Numbers
