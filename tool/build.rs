@@ -16,8 +16,12 @@ fn library_folder() -> PathBuf {
     }
 }
 
-/// The kit's one-line identity, as `rt version` prints it, or `unknown` where there is no kit.
+/// The kit's one-line identity, as `rt version` prints it, or `unknown` where there is no kit. Who made a library that comes
+/// from elsewhere is not known.
 fn kit() -> String {
+    if env::var_os("PROOFSCALE_LIB").is_some() {
+        return "unknown, with a library from PROOFSCALE_LIB".to_string();
+    }
     let output = Command::new("rt").arg("version").output();
     let text = match output {
         Ok(o) if o.status.success() => String::from_utf8_lossy(&o.stdout).into_owned(),

@@ -63,7 +63,7 @@ pub struct Outcome {
     pub runs: u64,
     pub seconds: f64,
     pub limit: Limit,
-    pub enough: u64,
+    pub enough: Sizes,
     pub trouble: Trouble,
 }
 
@@ -133,7 +133,7 @@ pub fn judge(formula: &[u8], proof: &[u8], limit: Limit, progress: &Progress) ->
         let answer = library::check(formula, proof, &mut store);
         let sizes = store.sizes();
         let seconds = start.elapsed().as_secs_f64();
-        let done = |trouble| Outcome { answer, sizes, runs, seconds, limit, enough: most.bytes(), trouble };
+        let done = |trouble| Outcome { answer, sizes, runs, seconds, limit, enough: most, trouble };
         if answer.answer != library::TOO_SHORT {
             progress.phase("looking for the place");
             return done(trouble(answer, formula, proof, &mut store));

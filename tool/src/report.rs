@@ -84,7 +84,7 @@ fn too_short(outcome: &Outcome) -> String {
 }
 
 /// The same, by the sizes, the limit and what would always do.
-pub fn store_too_short(sizes: Sizes, limit: Limit, enough: u64) -> String {
+pub fn store_too_short(sizes: Sizes, limit: Limit, enough: Sizes) -> String {
     let parts: Vec<String> = sizes.parts().iter().filter(|p| p.length > 0).map(|p| format!("{} {}", p.name, p.bytes())).collect();
     let parts = if parts.is_empty() { String::new() } else { format!(" ({})", parts.join(", ")) };
     let limit = match limit.reason {
@@ -93,9 +93,20 @@ pub fn store_too_short(sizes: Sizes, limit: Limit, enough: u64) -> String {
         Reason::Unknown => "the system hands out no more".to_string(),
     };
     format!(
-        "The work store is too short: {} bytes{parts} did not do and {limit}; {enough} always do for files of these sizes.",
-        sizes.bytes()
+        "The work store is too short: {} bytes{parts} did not do and {limit}; {} always do for files of these sizes.",
+        sizes.bytes(),
+        always(enough)
     )
+}
+
+/// The bytes that always do. Those of the marks go by the greatest variable that occurs, which nobody has looked for, and the
+/// guesses are not needed.
+fn always(enough: Sizes) -> String {
+    let rest = Sizes { marks: 0, guess: 0, ..enough }.bytes();
+    if enough.marks == 0 {
+        return rest.to_string();
+    }
+    format!("{} and 2 for each variable up to the greatest that occurs", rest + 2)
 }
 
 /// The versions, as JSON.

@@ -12,7 +12,7 @@ use std::mem::size_of;
 pub const GREATEST_VARIABLE: usize = 16_777_215;
 
 /// No part is made shorter than this at first, unless a shorter one always does.
-const FEW: usize = 1024;
+const FEW: usize = 256;
 
 /// The lengths of the six parts, in numbers and not in bytes.
 #[derive(Debug, Clone, Copy, PartialEq, Eq, Default)]
@@ -174,11 +174,13 @@ impl Plan {
 
     /// What the limit allows at most. Where it allows all but the marks at their full lengths, the marks have the rest, so
     /// that the bytes which document 01 says always do (8 for each variable that occurs) do here, too. The guesses, which
-    /// nothing but speed depends on, have what is left then.
+    /// nothing but speed depends on, have what is left then, or a small share.
     fn all_of_limit(&self, now: Sizes, goal: Sizes) -> Sizes {
         let full = Sizes { marks: 0, guess: 0, ..self.most };
         let Some(rest) = self.limit.checked_sub(full.bytes()) else {
-            return now.towards(goal, self.limit);
+            let few = usize::try_from(self.limit / 64).unwrap_or(usize::MAX);
+            let lean = Sizes { guess: goal.guess.min(few).max(now.guess), ..goal };
+            return if lean.bytes() <= self.limit { lean } else { now.towards(lean, self.limit) };
         };
         let marks = self.most.marks.min(usize::try_from(rest).unwrap_or(usize::MAX));
         let rest = (rest - marks as u64) / size_of::<u32>() as u64;

@@ -26,7 +26,7 @@ use std::time::Instant;
 enum Made {
     Text { text: Vec<u8>, sizes: Sizes },
     Unreadable { trouble: Trouble },
-    TooShort { sizes: Sizes, limit: Limit, enough: u64 },
+    TooShort { sizes: Sizes, limit: Limit, enough: Sizes },
 }
 
 /// The command: reads the formula, writes it out, reports. Returns the exit status.
@@ -61,7 +61,7 @@ fn make(formula: &[u8], limit: Limit) -> Made {
     let mut store = plan.next_store().expect("a plan has a first attempt");
     loop {
         let sizes = store.sizes();
-        let too_short = Made::TooShort { sizes, limit, enough: most.bytes() };
+        let too_short = Made::TooShort { sizes, limit, enough: most };
         let Some(mut out) = store::zeroed::<u8>(room) else { return too_short };
         match library::write(formula, &mut store, &mut out) {
             Written::Whole { length } => {
