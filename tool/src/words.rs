@@ -28,10 +28,11 @@ pub fn bytes(bytes: &[u8]) -> String {
 
 /// A path as text; `-` is standard input.
 pub fn path(path: &OsStr) -> String {
-    if path == "-" {
-        return "standard input".to_string();
+    match path.as_bytes() {
+        b"-" => "standard input".to_string(),
+        b"" => "the file with an empty name".to_string(),
+        name => bytes(name),
     }
-    bytes(path.as_bytes())
 }
 
 /// A token in quotes, cut if it is long.

@@ -152,6 +152,9 @@ fn sum(name: &OsStr, bytes: &[u8]) -> Json {
 
 /// Puts the text in the place of OUT, whole or not at all.
 fn replace(out: &Path, text: &[u8]) -> Result<(), Failure> {
+    if out.as_os_str().is_empty() {
+        return Err(cannot_open(out, "expected a name"));
+    }
     if out.as_os_str().as_bytes().ends_with(b"/") {
         return Err(cannot_open(out, "its name is that of a directory; expected a file"));
     }
