@@ -124,8 +124,7 @@ fn file_report(file: &Input, hashed: bool) -> FileReport {
 pub fn judge(formula: &[u8], proof: &[u8], limit: Limit, progress: &Progress) -> Outcome {
     let start = Instant::now();
     let most = store::enough_to_check(formula.len(), proof.len());
-    let first = store::first_to_check(formula.len(), proof.len(), Announced::of(formula));
-    let mut plan = Plan::new(first, most, limit.bytes);
+    let mut plan = Plan::new(first_sizes(formula, proof, limit), most, limit.bytes);
     let mut store = plan.next_store().expect("a plan has a first attempt");
     let mut runs = 1;
     loop {
@@ -146,6 +145,16 @@ pub fn judge(formula: &[u8], proof: &[u8], limit: Limit, progress: &Progress) ->
         }
         runs += 1;
     }
+}
+
+/// What a check is tried with first.
+fn first_sizes(formula: &[u8], proof: &[u8], limit: Limit) -> Sizes {
+    let announced = Announced::of(formula);
+    let first = store::first_to_check(formula.len(), proof.len(), announced);
+    if first.bytes() <= limit.bytes {
+        return first;
+    }
+    store::lean_to_check(formula, proof.len(), announced, limit.bytes).unwrap_or(first)
 }
 
 /// What the line of progress says during a run.

@@ -65,6 +65,7 @@ impl Sizes {
         let have = self.bytes();
         let want = goal.bytes().saturating_sub(have).max(1);
         let more = bytes.saturating_sub(have).min(want);
+        // Each part goes the same share of its way, rounded down.
         self.with(goal, |now, goal| {
             let way = goal.saturating_sub(now) as u128 * u128::from(more) / u128::from(want);
             now + way as usize
@@ -135,6 +136,34 @@ pub fn first_to_check(formula: usize, proof: usize, announced: Announced) -> Siz
     first.with(enough_to_check(formula, proof), usize::min)
 }
 
+/// The lengths that a check is tried with first where those above are beyond the limit: the formula is looked through to see how
+/// many literals it has, a step is taken to be short, and the clauses and literals that are added have the rest in equal parts.
+/// There may be no such lengths within the limit.
+pub fn lean_to_check(formula: &[u8], proof: usize, announced: Announced, limit: u64) -> Option<Sizes> {
+    let one_step = FEW + proof / 1024;
+    let clauses = announced.clauses.min(formula.len() / 2 + 1);
+    let least = Sizes {
+        heads: 2 * clauses + 2,
+        lits: words_in(formula).saturating_sub(clauses),
+        hints: one_step,
+        guess: usize::try_from(limit / 64).unwrap_or(usize::MAX).min(clauses + FEW + proof / 32),
+        marks: 2 * announced.variables + 2,
+        tape: announced.variables + one_step,
+    };
+    let most = enough_to_check(formula.len(), proof);
+    let least = least.with(most, usize::min);
+    let half = usize::try_from(limit.checked_sub(least.bytes())? / 2).unwrap_or(usize::MAX);
+    let lean = Sizes { heads: least.heads + half / size_of::<u64>(), lits: least.lits + half / size_of::<u32>(), ..least };
+    Some(lean.with(most, usize::min))
+}
+
+/// How many words there are in a text.
+fn words_in(text: &[u8]) -> usize {
+    let blank = |b: u8| matches!(b, b' ' | b'\t' | b'\r' | b'\n');
+    let inner = text.windows(2).filter(|w| blank(w[0]) && !blank(w[1])).count();
+    inner + usize::from(text.first().is_some_and(|&b| !blank(b)))
+}
+
 /// The lengths that always do for writing a formula out, by include/proofscale.h.
 pub fn enough_to_write(formula: usize) -> Sizes {
     Sizes { heads: formula + 3, lits: (formula + 1) / 2, ..Sizes::default() }
@@ -158,34 +187,36 @@ pub struct Plan {
 impl Plan {
     pub fn new(first: Sizes, most: Sizes, limit: u64) -> Plan {
         let mut plan = Plan { most, limit, next: None, last: false };
-        plan.next = Some(plan.bounded(Sizes::default(), first));
+        plan.next = plan.bounded(Sizes::default(), first);
         plan
     }
 
-    /// The goal, if it is within the limit; else the last attempt.
-    fn bounded(&mut self, now: Sizes, goal: Sizes) -> Sizes {
+    /// The goal, if it is within the limit; else the last attempt. That is left out if it would hardly be larger than the one
+    /// before.
+    fn bounded(&mut self, now: Sizes, goal: Sizes) -> Option<Sizes> {
         if goal.bytes() <= self.limit {
             self.last = goal == self.most;
-            return goal;
+            return Some(goal);
         }
         self.last = true;
-        self.all_of_limit(now, goal)
+        self.full_within_limit().or_else(|| {
+            let few = usize::try_from(self.limit / 64).unwrap_or(usize::MAX);
+            let goal = Sizes { guess: goal.guess.min(few).max(now.guess), ..goal };
+            let larger = now.towards(goal, self.limit);
+            (now == Sizes::default() || larger.bytes() - now.bytes() > now.bytes() / 16).then_some(larger)
+        })
     }
 
-    /// What the limit allows at most. Where it allows all but the marks at their full lengths, the marks have the rest, so
-    /// that the bytes which document 01 says always do (8 for each variable that occurs) do here, too. The guesses, which
-    /// nothing but speed depends on, have what is left then, or a small share.
-    fn all_of_limit(&self, now: Sizes, goal: Sizes) -> Sizes {
+    /// All parts but the marks at their full lengths, if the limit allows that. The marks have the rest, so that the bytes
+    /// which document 01 says always do (8 for each variable that occurs) do here, too. The guesses, which nothing but speed
+    /// depends on, have what is left then.
+    fn full_within_limit(&self) -> Option<Sizes> {
         let full = Sizes { marks: 0, guess: 0, ..self.most };
-        let Some(rest) = self.limit.checked_sub(full.bytes()) else {
-            let few = usize::try_from(self.limit / 64).unwrap_or(usize::MAX);
-            let lean = Sizes { guess: goal.guess.min(few).max(now.guess), ..goal };
-            return if lean.bytes() <= self.limit { lean } else { now.towards(lean, self.limit) };
-        };
+        let rest = self.limit.checked_sub(full.bytes())?;
         let marks = self.most.marks.min(usize::try_from(rest).unwrap_or(usize::MAX));
         let rest = (rest - marks as u64) / size_of::<u32>() as u64;
         let guess = self.most.guess.min(usize::try_from(rest).unwrap_or(usize::MAX));
-        Sizes { marks, guess, ..full }
+        Some(Sizes { marks, guess, ..full })
     }
 
     /// The system did not hand these sizes out: the next attempt is the last one, with half of them.
@@ -205,7 +236,7 @@ impl Plan {
         };
         if !self.last {
             let goal = sizes.doubled(self.most);
-            self.next = Some(self.bounded(sizes, goal));
+            self.next = self.bounded(sizes, goal);
         }
         Some(store)
     }
@@ -314,6 +345,18 @@ mod tests {
             let most = enough_to_check(f, p);
             assert!(last.heads >= most.heads && last.lits >= most.lits && last.hints >= most.hints);
             assert!(last.tape >= most.tape && last.marks >= 2 * v + 2);
+        }
+    }
+
+    #[test]
+    fn lean_sizes_are_within_the_limit_and_hold_the_formula() {
+        let formula = b"c x\np cnf 3 4\n1 2 -3 0\n-1 0\n 0 3 0\n";
+        assert_eq!(words_in(formula), 15);
+        let announced = Announced::of(formula);
+        assert_eq!(lean_to_check(formula, 1000, announced, 100), None);
+        for limit in [4_000, 10_000, 100_000] {
+            let lean = lean_to_check(formula, 1000, announced, limit).expect("there is room enough");
+            assert!(lean.bytes() <= limit && lean.heads >= 10 && lean.lits >= 5 && lean.marks >= 8, "{lean:?}");
         }
     }
 
