@@ -29,7 +29,9 @@ use std::panic;
 /// Does what the command line asks for, and returns the exit status.
 pub fn run(args: Vec<OsString>) -> u8 {
     panic::set_hook(Box::new(|fault| {
-        output::complain(&format!("a fault of the tool itself, which is no answer: {fault}"));
+        let what = fault.payload_as_str().unwrap_or("no reason is known");
+        let place = fault.location().map_or(String::new(), |at| format!(" ({at})"));
+        output::complain(&format!("a fault of the tool itself, which is no answer: {what}{place}"));
     }));
     panic::catch_unwind(|| run_parsed(args)).unwrap_or(FAULT)
 }
