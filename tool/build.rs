@@ -11,8 +11,9 @@ use std::process::Command;
 fn library_folder() -> PathBuf {
     match env::var_os("PROOFSCALE_LIB") {
         Some(folder) => PathBuf::from(folder),
-        None => PathBuf::from(env::var_os("CARGO_MANIFEST_DIR").expect("cargo sets CARGO_MANIFEST_DIR"))
-            .join("../target/staticlib"),
+        None => {
+            PathBuf::from(env::var_os("CARGO_MANIFEST_DIR").expect("cargo sets CARGO_MANIFEST_DIR")).join("../target/staticlib")
+        }
     }
 }
 

@@ -15,6 +15,7 @@ use crate::status::{self, Failure, FAULT};
 use crate::usage::Options;
 use crate::words;
 use std::ffi::{OsStr, OsString};
+use std::io::{self, IsTerminal};
 use std::os::unix::ffi::{OsStrExt, OsStringExt};
 use std::panic::{catch_unwind, AssertUnwindSafe};
 use std::path::Path;
@@ -91,9 +92,10 @@ fn check_all<'a>(lines: &'a [Line], folder: &Path, options: &Options) -> Result<
     let jobs = jobs_for(lines.len(), options);
     let next = AtomicUsize::new(0);
     let (sender, receiver) = mpsc::channel();
-    let progress = Progress::start(!options.quiet);
-    progress.phase("checking pairs");
     let table = !options.json && !options.quiet;
+    // A table that appears on a terminal shows the progress by itself, and the line would only get in its way.
+    let progress = Progress::start(!options.quiet && !(table && io::stdout().is_terminal()));
+    progress.phase("checking pairs");
     let mut printer = Printer { wanted: table };
     printer.print(&head())?;
     thread::scope(|scope| {
@@ -165,10 +167,16 @@ fn row<'a>(line: &'a Line, folder: &Path, jobs: usize, options: &Options) -> Row
 /// Reads and checks the pair of a line.
 fn check_line(line: &Line, folder: &Path, jobs: usize, options: &Options) -> Result<Report, Failure> {
     let (formula, proof) = line.names.as_ref().map_err(Clone::clone)?;
-    let formula = input::read_file(folder.join(formula).as_os_str())?;
-    let proof = input::read_file(folder.join(proof).as_os_str())?;
+    let formula = input::read_file(&path_in(folder, formula))?;
+    let proof = input::read_file(&path_in(folder, proof))?;
     let silent = Progress::start(false);
     Ok(check::pair(&formula, &proof, Limit::now(options.store, jobs), options.json, &silent))
+}
+
+/// The path of a name in the list. Standard input can't be in a list: there `-` is a name like any other.
+fn path_in(folder: &Path, name: &OsStr) -> OsString {
+    let folder = if folder.as_os_str().is_empty() && name == "-" { Path::new(".") } else { folder };
+    folder.join(name).into_os_string()
 }
 
 /// The names of the table's columns.
@@ -294,13 +302,10 @@ mod tests {
     #[test]
     fn a_list_is_split_into_pairs() {
         let pair = |f: &str, p: &str| Some((f.to_string(), p.to_string()));
-        assert_eq!(names("a b\n\n# no\n  c   d \r\ne f\tg h\nonly\nx y z\n"), vec![
-            (1, pair("a", "b")),
-            (4, pair("c", "d")),
-            (5, pair("e f", "g h")),
-            (6, None),
-            (7, None),
-        ]);
+        assert_eq!(
+            names("a b\n\n# no\n  c   d \r\ne f\tg h\nonly\nx y z\n"),
+            vec![(1, pair("a", "b")), (4, pair("c", "d")), (5, pair("e f", "g h")), (6, None), (7, None),]
+        );
         assert_eq!(names("\n \n"), vec![]);
     }
 }

@@ -7,6 +7,7 @@
 use crate::input::{self, Input};
 use crate::library::{self, Answer, Written};
 use crate::locate::{self, Fault, Place};
+use crate::memory;
 use crate::output;
 use crate::progress::Progress;
 use crate::report;
@@ -14,7 +15,6 @@ use crate::sha256;
 use crate::status::Failure;
 use crate::store::{self, Announced, Plan, Sizes, Store};
 use crate::usage::Options;
-use crate::memory;
 use crate::words;
 use std::ffi::{OsStr, OsString};
 use std::time::Instant;
@@ -94,8 +94,7 @@ pub fn run(formula: &OsStr, proof: &OsStr, options: &Options) -> Result<u8, Fail
         pair(&formula, &proof, Limit::now(options.store, 1), options.json, &progress)
     };
     if options.json {
-        output::deliver(report::check_json(&report).written().as_bytes())?;
-        output::deliver(b"\n")?;
+        output::deliver((report::check_json(&report).written() + "\n").as_bytes())?;
     } else if !options.quiet {
         output::deliver(report::check_text(&report).as_bytes())?;
     }

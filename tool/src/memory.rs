@@ -99,6 +99,26 @@ mod tests {
         assert_eq!(folders, expected.map(PathBuf::from));
     }
 
+    /// A folder as a control group has it, with files of these names and texts.
+    fn group(name: &str, files: &[(&str, &str)]) -> PathBuf {
+        let folder = std::env::temp_dir().join(format!("proofscale-group-{}-{name}", std::process::id()));
+        fs::create_dir_all(&folder).expect("a folder can be made");
+        files.iter().for_each(|(file, text)| fs::write(folder.join(file), text).expect("a file can be made"));
+        folder
+    }
+
+    #[test]
+    fn a_group_has_its_limit_less_what_it_uses() {
+        let stat = ("memory.stat", "anon 5\ninactive_file 30\n");
+        let new = group("new", &[("memory.max", "1000\n"), ("memory.current", "400\n"), stat]);
+        assert_eq!(left_in_group(&new), Some(630));
+        let open = group("open", &[("memory.max", "max\n"), ("memory.current", "400\n"), stat]);
+        assert_eq!(left_in_group(&open), None);
+        let old = group("old", &[("memory.limit_in_bytes", "1000\n"), ("memory.usage_in_bytes", "1400\n")]);
+        assert_eq!(left_in_group(&old), Some(0));
+        [new, open, old].iter().for_each(|folder| fs::remove_dir_all(folder).expect("the folder can be removed"));
+    }
+
     #[test]
     fn something_is_free_here() {
         assert!(free().is_some_and(|bytes| bytes > 0));

@@ -85,7 +85,8 @@ fn too_short(outcome: &Outcome) -> String {
 
 /// The same, by the sizes, the limit and what would always do.
 pub fn store_too_short(sizes: Sizes, limit: Limit, enough: Sizes) -> String {
-    let parts: Vec<String> = sizes.parts().iter().filter(|p| p.length > 0).map(|p| format!("{} {}", p.name, p.bytes())).collect();
+    let parts: Vec<String> =
+        sizes.parts().iter().filter(|p| p.length > 0).map(|p| format!("{} {}", p.name, p.bytes())).collect();
     let parts = if parts.is_empty() { String::new() } else { format!(" ({})", parts.join(", ")) };
     let limit = match limit.reason {
         Reason::Asked => format!("--store allows {}", limit.bytes),

@@ -34,13 +34,7 @@ fn feed(child: &mut Child, bytes: &[u8]) -> std::io::Result<()> {
 mod tests {
     #[test]
     fn the_sum_of_nothing_and_of_abc() {
-        assert_eq!(
-            super::of(b"").as_deref(),
-            Ok("e3b0c44298fc1c149afbf4c8996fb92427ae41e4649b934ca495991b7852b855")
-        );
-        assert_eq!(
-            super::of(b"abc").as_deref(),
-            Ok("ba7816bf8f01cfea414140de5dae2223b00361a396177a9cb410ff61f20015ad")
-        );
+        assert_eq!(super::of(b"").as_deref(), Ok("e3b0c44298fc1c149afbf4c8996fb92427ae41e4649b934ca495991b7852b855"));
+        assert_eq!(super::of(b"abc").as_deref(), Ok("ba7816bf8f01cfea414140de5dae2223b00361a396177a9cb410ff61f20015ad"));
     }
 }

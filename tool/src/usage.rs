@@ -237,9 +237,26 @@ mod tests {
     #[test]
     fn what_is_refused() {
         for wrong in [
-            "", "frob", "check", "check a", "check a b c", "write", "write a b c", "batch", "batch a b", "check a b --frob",
-            "check a b --jobs 2", "check - -", "write f --json", "write f - --json", "batch l --jobs 0", "batch l --jobs x",
-            "batch l --jobs", "check a b --store", "check a b --json=1", "check a b -x",
+            "",
+            "frob",
+            "check",
+            "check a",
+            "check a b c",
+            "write",
+            "write a b c",
+            "batch",
+            "batch a b",
+            "check a b --frob",
+            "check a b --jobs 2",
+            "check - -",
+            "write f --json",
+            "write f - --json",
+            "batch l --jobs 0",
+            "batch l --jobs x",
+            "batch l --jobs",
+            "check a b --store",
+            "check a b --json=1",
+            "check a b -x",
         ] {
             assert_eq!(parsed(wrong).map_err(|f| f.status), Err(64), "{wrong}");
         }

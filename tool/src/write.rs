@@ -1,8 +1,8 @@
 //! `proofscale write`: a formula as the library read it, written out.
 //!
 //! OUT is either as it was or whole: the text goes to a file beside it, which is brought to the disk and then takes OUT's
-//! name. (If the machine stops in between, that file, `.proofscale-...tmp`, may be left behind.) A device or a pipe
-//! can't be replaced and is written to directly, and so is standard output: there nothing like that can be promised.
+//! name. (If the machine stops in between, or the tool is killed, that file, `.proofscale-...tmp`, may be left behind.) A
+//! device or a pipe can't be replaced and is written to directly, and so is standard output: there nothing like that can be promised.
 
 use crate::check::{in_formula, FileReport, Limit, Trouble};
 use crate::input::{self, Input};
@@ -91,7 +91,14 @@ fn to_standard_output(text: &[u8]) -> Result<u8, Failure> {
 }
 
 /// Says that OUT was written.
-fn tell_written(input: &Input, out: &OsStr, text: &[u8], sizes: Sizes, start: Instant, options: &Options) -> Result<(), Failure> {
+fn tell_written(
+    input: &Input,
+    out: &OsStr,
+    text: &[u8],
+    sizes: Sizes,
+    start: Instant,
+    options: &Options,
+) -> Result<(), Failure> {
     if options.json {
         let mut written = path_members(out);
         written.push(("bytes", Json::Number(text.len() as u64)));
@@ -107,7 +114,8 @@ fn tell_written(input: &Input, out: &OsStr, text: &[u8], sizes: Sizes, start: In
     } else if options.quiet {
         Ok(())
     } else {
-        let sentence = format!("Wrote the formula of {} to {}: {} bytes.\n", words::path(&input.name), words::path(out), text.len());
+        let sentence =
+            format!("Wrote the formula of {} to {}: {} bytes.\n", words::path(&input.name), words::path(out), text.len());
         output::deliver(sentence.as_bytes()).map(|_| ())
     }
 }

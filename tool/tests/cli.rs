@@ -66,7 +66,12 @@ impl Folder {
 
     fn run_with(&self, words: &[&str], input: &[u8]) -> Ran {
         let mut command = self.command(words);
-        let mut child = command.stdin(Stdio::piped()).stdout(Stdio::piped()).stderr(Stdio::piped()).spawn().expect("the program can be run");
+        let mut child = command
+            .stdin(Stdio::piped())
+            .stdout(Stdio::piped())
+            .stderr(Stdio::piped())
+            .spawn()
+            .expect("the program can be run");
         child.stdin.take().expect("the pipe was asked for").write_all(input).expect("the program reads its input");
         Ran::of(child.wait_with_output().expect("the program ends"))
     }
@@ -302,7 +307,12 @@ fn every_answer_is_the_exit_status() {
     let folder = Folder::new();
     folder.file("bad.cnf", "p cnf 1 1\n1 2 0\n");
     folder.run(&["check", "r.cnf", "good.lrat"]).answers("answer 0 step 4").mentions(&["no solution", "step 4"]);
-    folder.run(&["check", "bad.cnf", "good.lrat"]).answers("answer 1").mentions(&["bad.cnf", "line 2, column 3 (byte 12)", "`2`", "up to 1"]);
+    folder.run(&["check", "bad.cnf", "good.lrat"]).answers("answer 1").mentions(&[
+        "bad.cnf",
+        "line 2, column 3 (byte 12)",
+        "`2`",
+        "up to 1",
+    ]);
     folder.run(&["check", "r.cnf", "unreadable.lrat"]).answers("answer 2 step 2").mentions(&[
         "unreadable.lrat",
         "line 2, column 12 (byte 27)",
@@ -310,7 +320,10 @@ fn every_answer_is_the_exit_status() {
         "a hint",
         "begins at line 2, column 1 (byte 16)",
     ]);
-    folder.run(&["check", "r.cnf", "refused.lrat"]).answers("answer 3 step 2").mentions(&["refused.lrat", "line 2, column 1 (byte 16)"]);
+    folder
+        .run(&["check", "r.cnf", "refused.lrat"])
+        .answers("answer 3 step 2")
+        .mentions(&["refused.lrat", "line 2, column 1 (byte 16)"]);
     folder.run(&["check", "r.cnf", "unfinished.lrat"]).answers("answer 4 step 1").mentions(&["behind 1 step "]);
     folder.run(&["check", "r.cnf", "good.lrat", "--store", "64"]).answers("answer 5").mentions(&["--store allows 64", "heads"]);
 }
@@ -348,9 +361,15 @@ fn the_place_in_a_formula_is_told() {
 fn a_proof_that_ends_inside_a_step_is_told_so() {
     let folder = Folder::new();
     folder.file("cut.lrat", "9 1 2 0 1 3 6");
-    folder.run(&["check", "r.cnf", "cut.lrat"]).answers("answer 2 step 1").mentions(&["(byte 13)", "found the end of the file"]);
+    folder
+        .run(&["check", "r.cnf", "cut.lrat"])
+        .answers("answer 2 step 1")
+        .mentions(&["(byte 13)", "found the end of the file"]);
     folder.file("d.lrat", "9 d 1 0\n9 d -2 0\n");
-    folder.run(&["check", "r.cnf", "d.lrat"]).answers("answer 2 step 2").mentions(&["line 2, column 5 (byte 12)", "id of a clause to delete"]);
+    folder
+        .run(&["check", "r.cnf", "d.lrat"])
+        .answers("answer 2 step 2")
+        .mentions(&["line 2, column 5 (byte 12)", "id of a clause to delete"]);
 }
 
 // Usage
@@ -649,7 +668,8 @@ fn json_of_a_write() {
 #[test]
 fn names_of_any_bytes_are_told_rightly() {
     let folder = Folder::new();
-    let odd: [&[u8]; 5] = [b"sp ace.lrat", b"quo\"te\\.lrat", b"line\nfeed\x1b[1m", "\u{e4}\u{2028}\u{1f600}".as_bytes(), b"\xff\xfe.lrat"];
+    let odd: [&[u8]; 5] =
+        [b"sp ace.lrat", b"quo\"te\\.lrat", b"line\nfeed\x1b[1m", "\u{e4}\u{2028}\u{1f600}".as_bytes(), b"\xff\xfe.lrat"];
     for name in odd {
         let name = OsString::from_vec(name.to_vec());
         folder.file(&name, REFUSED);
@@ -712,7 +732,10 @@ fn a_batch_goes_on_behind_bad_pairs() {
         assert_eq!(rows, expected.map(|row| row.to_vec()), "{ran:?}");
         ran.mentions(&["sub/../missing.lrat can't be opened", "line 6 of the list has 1 name", "directory"]);
         let last = ran.out.lines().last().unwrap_or_default();
-        assert!(last.starts_with("10 pairs in ") && last.contains("3 verified") && last.ends_with("not all are verified."), "{last}");
+        assert!(
+            last.starts_with("10 pairs in ") && last.contains("3 verified") && last.ends_with("not all are verified."),
+            "{last}"
+        );
     }
 }
 
@@ -727,6 +750,16 @@ fn a_batch_of_good_pairs_is_0() {
     assert_eq!(folder.run_with(&["batch", "-", "--quiet"], absolute.as_bytes()).status, 0);
     let ran = folder.run_with(&["batch", "-", "--quiet"], b"r.cnf refused.lrat\n");
     assert_eq!((ran.status, ran.out.as_str()), (1, ""));
+}
+
+#[test]
+fn a_dash_in_a_list_is_a_name() {
+    let folder = Folder::new();
+    folder.file("list", "r.cnf -\n");
+    assert_eq!(folder.run_with(&["batch", "list"], GOOD.as_bytes()).mentions(&["./- can't be opened"]).status, 1);
+    folder.file("-", GOOD);
+    assert_eq!(folder.run(&["batch", "list"]).status, 0);
+    folder.run(&["check", "r.cnf", "./-"]).answers("answer 0 step 4");
 }
 
 #[test]
@@ -788,7 +821,16 @@ fn a_store_of_any_size_gives_the_answer_or_5() {
 fn the_store_grows_until_it_does() {
     // Variables far above those of the header, which the first store has no marks for.
     let folder = Folder::new();
-    folder.file("new.lrat", format!("9 16777215 0 0\n{}", GOOD.replace("9 1 2", "90 1 2").replace("10 1 0 9 ", "100 1 0 90 ").replace("11 2 0 9 ", "110 2 0 90 ").replace("12 0 10 11", "120 0 100 110")));
+    folder.file(
+        "new.lrat",
+        format!(
+            "9 16777215 0 0\n{}",
+            GOOD.replace("9 1 2", "90 1 2")
+                .replace("10 1 0 9 ", "100 1 0 90 ")
+                .replace("11 2 0 9 ", "110 2 0 90 ")
+                .replace("12 0 10 11", "120 0 100 110")
+        ),
+    );
     let ran = folder.run(&["check", "r.cnf", "new.lrat", "--json"]);
     let json = Json::of(&ran.out);
     assert_eq!((json.number("answer"), json.number("step")), (0.0, 5.0), "{ran:?}");
@@ -804,7 +846,8 @@ fn a_system_that_hands_out_little_memory_is_no_crash() {
     let mut statuses = Vec::new();
     for kilobytes in (6_000..40_000).step_by(2_000) {
         let script = format!("ulimit -v {kilobytes}; exec \"$0\" check large.cnf good.lrat");
-        let output = Command::new("sh").args(["-c", &script, env!("CARGO_BIN_EXE_proofscale")]).current_dir(&folder.path).output();
+        let output =
+            Command::new("sh").args(["-c", &script, env!("CARGO_BIN_EXE_proofscale")]).current_dir(&folder.path).output();
         let ran = Ran::of(output.expect("the shell can be run"));
         assert!([3, 5, 74].contains(&ran.status), "{kilobytes}: {ran:?}");
         statuses.push(ran.status);
