@@ -94,7 +94,7 @@ fn check_all<'a>(lines: &'a [Line], folder: &Path, options: &Options) -> Result<
     let (sender, receiver) = mpsc::channel();
     let table = !options.json && !options.quiet;
     // A table that appears on a terminal shows the progress by itself, and the line would only get in its way.
-    let progress = Progress::start(!options.quiet && !(table && io::stdout().is_terminal()));
+    let progress = Progress::start(!(options.quiet || table && io::stdout().is_terminal()));
     progress.phase("checking pairs");
     let mut printer = Printer { wanted: table };
     printer.print(&head())?;

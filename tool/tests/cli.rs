@@ -72,7 +72,8 @@ impl Folder {
             .stderr(Stdio::piped())
             .spawn()
             .expect("the program can be run");
-        child.stdin.take().expect("the pipe was asked for").write_all(input).expect("the program reads its input");
+        // A program that ends without reading all is judged by what it prints, not here.
+        let _ = child.stdin.take().expect("the pipe was asked for").write_all(input);
         Ran::of(child.wait_with_output().expect("the program ends"))
     }
 }
