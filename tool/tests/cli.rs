@@ -840,6 +840,21 @@ fn the_store_grows_until_it_does() {
 }
 
 #[test]
+fn the_store_grows_with_the_clauses_that_are_alive() {
+    // As many clauses as there can be for the bytes of a proof, and none of them deleted.
+    let folder = Folder::new();
+    folder.file("one.cnf", "p cnf 1 2\n1 0\n-1 0\n");
+    let steps: String = (10_000..30_000).map(|id| format!("{id} 1 0 1 0\n")).collect();
+    folder.file("short.lrat", format!("{steps}30000 0 29999 2 0\n"));
+    let ran = folder.run(&["check", "one.cnf", "short.lrat", "--json"]);
+    let json = Json::of(&ran.out);
+    assert_eq!((json.number("answer"), json.number("step")), (0.0, 20_001.0), "{ran:?}");
+    assert!(json.number("runs") > 1.0 && json.number("store.heads") >= 320_000.0, "{ran:?}");
+    folder.run(&["check", "one.cnf", "short.lrat", "--store", "300K"]).answers("answer 5");
+    folder.run(&["check", "one.cnf", "short.lrat", "--store", "600K"]).answers("answer 0 step 20001");
+}
+
+#[test]
 fn a_system_that_hands_out_little_memory_is_no_crash() {
     let folder = Folder::new();
     let clauses = "1 -2 3 -4 0\n".repeat(400_000);
