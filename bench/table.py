@@ -1,0 +1,80 @@
+"""The table: table.py FOLDER [DOCUMENT]. Prints it from FOLDER/runs.json and FOLDER/profile.txt; with a document, writes it there
+instead, between its lines `<!-- table -->` and `<!-- end -->`, with machine, date and command."""
+
+import datetime
+import json
+import os
+import platform
+import re
+import subprocess
+import sys
+
+HEAD = (
+    "| input | size | formula MB | proof MB | Proofscale s | lrat-check s | ratio | ns a byte, against size 1/8 | "
+    "lrat-check's | Proofscale peak MB | less the files | lrat-check peak MB |\n|" + "---|" + "---|---:" * 5 + "|---:" * 5 + "|"
+)
+
+
+def least(row, checker):
+    """The least seconds, and the largest peak in MB."""
+    runs = row["runs"][checker]
+    return min(seconds for seconds, _ in runs), max(peak for _, peak in runs) * 1024 / 1e6
+
+
+def line(row, small):
+    """One line; `small` is the row of the same input in size 1/8."""
+    ours, our_peak = least(row, "proofscale")
+    theirs, their_peak = least(row, "lrat-check")
+    formula, proof = (n / 1e6 for n in row["bytes"])
+    both = formula + proof
+
+    def growth(checker):
+        mine, first = least(row, checker)[0] / sum(row["bytes"]), least(small, checker)[0] / sum(small["bytes"])
+        return f"{1e9 * mine:.1f}, {mine / first:.2f}"
+
+    size = "1" if row["size"] == 1 else f"1/{row['size']}"
+    cells = [row["input"], size, f"{formula:.2f}", f"{proof:.1f}", f"{ours:.3f}", f"{theirs:.3f}", f"{ours / theirs:.2f}"]
+    cells += [growth("proofscale"), growth("lrat-check"), f"{our_peak:.0f}", f"{our_peak - both:.0f}", f"{their_peak:.0f}"]
+    return "| " + " | ".join(cells) + " |"
+
+
+def machine():
+    with open("/proc/cpuinfo", encoding="utf-8") as file:
+        names = [text.split(":", 1)[1].strip() for text in file if text.startswith("model name")]
+    with open("/proc/meminfo", encoding="ascii") as file:
+        memory = int(file.readline().split()[1]) / 1048576
+    return f"{names[0] if names else platform.machine()}, {os.cpu_count()} processors, {memory:.0f} GB, Linux {platform.release()}"
+
+
+def head_commit():
+    here = os.path.dirname(os.path.abspath(__file__))
+    return subprocess.run(["git", "-C", here, "rev-parse", "--short", "HEAD"], capture_output=True, text=True).stdout.strip()
+
+
+def table(folder):
+    with open(f"{folder}/runs.json", encoding="ascii") as file:
+        rows = json.load(file)
+    small = {row["input"]: row for row in rows if row["size"] == 8}
+    runs = len(rows[0]["runs"]["proofscale"])
+    when = datetime.date.fromtimestamp(os.path.getmtime(f"{folder}/runs.json"))
+    facts = f"Machine: {machine()}. Date: {when}. Commit: {head_commit()}. Command: `bench/run`; {runs} runs of each.\n\n"
+    return facts + "\n".join([HEAD] + [line(row, small[row["input"]]) for row in rows]) + "\n"
+
+
+def main(folder, document=None):
+    with open(f"{folder}/profile.txt", encoding="utf-8") as file:
+        text = table(folder) + "\n" + file.read()
+    if document is None:
+        print(text)
+        return
+    with open(document, encoding="utf-8") as file:
+        old = file.read()
+    new, count = re.subn(r"(<!-- table -->\n).*?(<!-- end -->)", lambda m: m[1] + "\n" + text + "\n" + m[2], old, flags=re.S)
+    if count != 1:
+        sys.exit(f"{document}: expected the lines <!-- table --> and <!-- end --> once")
+    with open(document, "w", encoding="utf-8") as out:
+        out.write(new)
+
+
+if __name__ == "__main__":
+    main(*sys.argv[1:])
