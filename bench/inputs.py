@@ -68,7 +68,7 @@ def main(folder, part=1):
     os.makedirs(f"{folder}/inputs", exist_ok=True)
     kinds = {
         "pigeons": of_a_solver(folder, "pigeons", formulas.pigeons(10), part),
-        "random": of_a_solver(folder, "random", formulas.random3(300, 1), part),
+        "random": of_a_solver(folder, "random", formulas.random3(300, 4), part),
         "deletions": of_our_own(folder, "deletions", proofs.deletions, 2400000, part),
         "groups": of_our_own(folder, "groups", proofs.groups, 40000, part),
         "large": of_our_own(folder, "large", proofs.large, 8000000, part),
