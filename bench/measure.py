@@ -1,22 +1,18 @@
 """Measures: measure.py FOLDER TOOL RUNS. Runs Proofscale and lrat-check in turn on each input, and writes FOLDER/runs.json: of each
 run the wall seconds, from the start of the process to its end, and the peak of its memory.
 
-The files are read once before, so that they are in the system's cache for both. Peaks are ru_maxrss of wait4: a figure
-below this program's own memory, some 10 MB, would not be seen."""
+The files are read once before, so that they are in the system's cache for both."""
 
 import json
 import os
+import subprocess
 import sys
-import time
 
 
-def spend(command, log):
-    """Runs a command; its seconds, its peak in KiB, and its exit status."""
-    out = (os.POSIX_SPAWN_OPEN, 1, log, os.O_WRONLY | os.O_CREAT | os.O_TRUNC, 0o644)
-    start = time.perf_counter()
-    pid = os.posix_spawn(command[0], command, os.environ, file_actions=[out, (os.POSIX_SPAWN_DUP2, 1, 2)])
-    _, status, usage = os.wait4(pid, 0)
-    return time.perf_counter() - start, usage.ru_maxrss, os.waitstatus_to_exitcode(status)
+def spend(folder, command, log):
+    """Runs a command by spend.c; its seconds, its peak in KiB, and its exit status."""
+    said = subprocess.run([f"{folder}/bin/spend", log, *command], stdout=subprocess.PIPE, text=True, check=True).stdout.split()
+    return float(said[0]), int(said[1]), int(said[2])
 
 
 def expect(checker, row, status, log):
@@ -52,7 +48,7 @@ def main(folder, tool, runs):
             read_through(row[kind])
         for _ in range(runs):
             for checker, command in checkers.items():
-                seconds, peak, status = spend(command(row["formula"], row["proof"]), log)
+                seconds, peak, status = spend(folder, command(row["formula"], row["proof"]), log)
                 expect(checker, row, status, log)
                 row["runs"][checker].append([seconds, peak])
         least = {checker: min(seconds for seconds, _ in spent) for checker, spent in row["runs"].items()}

@@ -58,7 +58,8 @@ def deletions(formula, proof, steps):
 
 def groups(formula, proof, steps, clauses=20000):
     """Additions with groups: (p a) for pivots p whose opposite is in two clauses at the very beginning of a formula of so many
-    clauses, so that a checker has to look at all of them for each step. The last 1000 that were added are alive.
+    clauses, so that a checker has to look at all of them for each step. The last 1000 that were added are alive, and
+    of the others each thousandth: lrat-check crashes when it walks over 8,192 ids in a row that are all deleted.
 
     For each of 100 pivots p there are (-p c) and (-p e), and with f and g, (a c f) (a c -f) (a e g) (a e -g): if p and a are
     false, and c is false, then the third and the fourth are in conflict, and likewise the other two if e is."""
@@ -86,7 +87,7 @@ def groups(formula, proof, steps, clauses=20000):
             support = 2 * pivots + 4 * p + 1
             out.write(f"{number} {var(p, 'p')} {var(p, 'a')} 0 -{2 * p + 1} {support} {support + 1} ")
             out.write(f"-{2 * p + 2} {support + 2} {support + 3} 0\n")
-            if i >= 1000:
+            if i >= 1000 and number % 1000:
                 out.write(f"{number} d {number - 1000} 0\n")
         out.write(f"{number + 1} 0 {last} {last + 1} 0\n")
 

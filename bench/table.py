@@ -10,8 +10,8 @@ import subprocess
 import sys
 
 HEAD = (
-    "| input | size | formula MB | proof MB | Proofscale s | lrat-check s | ratio | ns a byte, against size 1/8 | "
-    "lrat-check's | Proofscale peak MB | less the files | lrat-check peak MB |\n|" + "---|" + "---|---:" * 5 + "|---:" * 5 + "|"
+    "| input | size | formula MB | proof MB | Proofscale s | lrat-check s | ratio | ns a byte, growth | lrat-check's | "
+    "Proofscale peak MB | less the files | lrat-check peak MB |\n|---|---" + "|---:" * 10 + "|"
 )
 
 
@@ -21,15 +21,20 @@ def least(row, checker):
     return min(seconds for seconds, _ in runs), max(peak for _, peak in runs) * 1024 / 1e6
 
 
-def line(row, small):
-    """One line; `small` is the row of the same input in size 1/8."""
+def work(row, same_formula):
+    """The bytes that the time should go by: those of the proof, and of the formula unless that is the same in all sizes."""
+    return row["bytes"][1] + (0 if same_formula else row["bytes"][0])
+
+
+def line(row, small, same):
+    """One line; `small` is the row of the same input in size 1/8, and `same` whether that has the same formula in size 1."""
     ours, our_peak = least(row, "proofscale")
     theirs, their_peak = least(row, "lrat-check")
     formula, proof = (n / 1e6 for n in row["bytes"])
     both = formula + proof
 
     def growth(checker):
-        mine, first = least(row, checker)[0] / sum(row["bytes"]), least(small, checker)[0] / sum(small["bytes"])
+        mine, first = (least(r, checker)[0] / work(r, same) for r in (row, small))
         return f"{1e9 * mine:.1f}, {mine / first:.2f}"
 
     size = "1" if row["size"] == 1 else f"1/{row['size']}"
@@ -58,7 +63,9 @@ def table(folder):
     runs = len(rows[0]["runs"]["proofscale"])
     when = datetime.date.fromtimestamp(os.path.getmtime(f"{folder}/runs.json"))
     facts = f"Machine: {machine()}. Date: {when}. Commit: {head_commit()}. Command: `bench/run`; {runs} runs of each.\n\n"
-    return facts + "\n".join([HEAD] + [line(row, small[row["input"]]) for row in rows]) + "\n"
+    lengths = {name: {row["bytes"][0] for row in rows if row["input"] == name} for name in small}
+    lines = [line(row, small[row["input"]], len(lengths[row["input"]]) == 1) for row in rows]
+    return facts + "\n".join([HEAD] + lines) + "\n"
 
 
 def main(folder, document=None):
