@@ -9,6 +9,7 @@ use Rattle.meaning.specs.Meaning.{Formula}
 use Rattle.rules.specs.Text.{tokens}
 use Rattle.rules.specs.Judging.{Ground}
 use Rattle.rules.specs.Answers.{endsVerified, endsUnreadableStep, endsRefused, endsUnfinished, numbered, start, checked}
+use Rattle.clauses.specs.Counting.{Reaches}
 use Rattle.clauses.specs.Store.{Holds}
 use Rattle.assignment.specs.Marks.{Shows, Paired}
 use Rattle.formula.specs.Body.{greatest}
@@ -39,6 +40,7 @@ pub record Cleared (marks : List ℕ) : Type 0 where
 
 -- What reading a formula is charged.
 pub record Charged (bytes used closed r : ℕ) : Type 0 where
+  pub at-least : Reaches (4 * bytes + 2 * used + 2 * closed + 2) r
   pub at-most : r ≤ 4 * bytes + 2 * used + 2 * closed + 2
 
 -- Each literal has a mark, or there is none; or the greatest has none.

@@ -75,11 +75,15 @@ fn clear(marks: &mut [u8]) -> u64
 fn reading(bytes: usize, used: usize, closed: usize) -> u64
     ensures { λ r. ⌜ Charged bytes used closed r ⌝ }
 {
-    let twice = clauses::plus(clauses::count(bytes), clauses::count(bytes));
+    let b = clauses::count(bytes);
+    let u = clauses::count(used);
+    let c = clauses::count(closed);
+    let twice = clauses::plus(b, b);
     let passed = clauses::plus(twice, twice);
-    let stored = clauses::plus(clauses::count(used), clauses::count(used));
-    let read = clauses::plus(clauses::count(closed), clauses::count(closed));
-    let all = clauses::plus(clauses::plus(passed, stored), read);
+    let stored = clauses::plus(u, u);
+    let read = clauses::plus(c, c);
+    let sum = clauses::plus(passed, stored);
+    let all = clauses::plus(sum, read);
     clauses::plus(all, 2)
 }
 

@@ -1,9 +1,10 @@
 // From bytes to tokens: blanks, numbers, and the token at a place of a text, by document 01, section 2.
 //
 // A number never wraps. Above 10^18, far beyond every limit of the document, it stays at 10^18, and a law in
-// proofs/Limits.antt says that no test of a limit can tell the difference. What a token may be used for is not decided here.
+// proofs/Tokens.antt says that no test of a limit can tell the difference. What a token may be used for is not decided here.
 //
-// Every loop here moves one byte on with each turn, so the turns are the bytes passed: `next - at`.
+// Every loop here moves one byte on with each turn, so the turns are the bytes passed: `next - at`, and for a word that is no
+// number up to twice that, since its end is looked for from its beginning.
 ghost use mathlib.Core.Path.{_≡_};
 ghost use mathlib.Core.Bool.{false};
 ghost use Prim.Native.Nat.{_+_, _*_, _<_, _≤_};
