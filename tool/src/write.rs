@@ -56,7 +56,8 @@ pub fn run(formula: &OsStr, out: Option<&OsStr>, options: &Options) -> Result<u8
 fn make(formula: &[u8], limit: Limit) -> Made {
     let most = store::enough_to_write(formula.len());
     let mut plan = Plan::new(store::first_to_write(formula.len(), Announced::of(formula)), most, limit.bytes);
-    // One blank less than the original is possible, and one line feed more than it, but not more: numbers have one spelling.
+    // The text is at most one byte longer than the original, by a line feed at its end: numbers have one spelling, and one blank
+    // behind each is the least that there can be. Should that ever be wrong, the library says so, and there is a larger room.
     let mut room = formula.len().saturating_add(2);
     let mut store = plan.next_store().expect("a plan has a first attempt");
     loop {

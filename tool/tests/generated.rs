@@ -536,7 +536,10 @@ fn stores_of_every_length() {
             }
         }
     }
-    say(&format!("stores of {} pairs, shorter than stated: too short {too_short:?}, right all the same {right:?}", pairs.len()));
+    say(&format!(
+        "stores of {} pairs, shorter than stated: too short {too_short:?}, right all the same {right:?}",
+        pairs.len()
+    ));
     for name in ["heads", "lits", "hints", "marks", "tape", "several parts"] {
         assert!(too_short.get(name).is_some_and(|&count| count > 0), "a short store was never too short in {name}");
         assert!(right.get(name).is_some_and(|&count| count > 0), "a shorter store never did in {name}");
@@ -738,7 +741,12 @@ fn an_output_or_store_that_is_too_short_leaves_the_output_alone() {
                     show(&formula, b"")
                 );
             } else {
-                assert_eq!((result.answer, result.length, &result.out), (0, text.len() as u64, &text), "{}", show(&formula, b""));
+                assert_eq!(
+                    (result.answer, result.length, &result.out),
+                    (0, text.len() as u64, &text),
+                    "{}",
+                    show(&formula, b"")
+                );
             }
         }
     }

@@ -3,7 +3,7 @@
 // as `0 4`: the answer and the step, or `1`: an answer without a step). What it prints is held to the file `stdout`.
 //
 // The cases s6-* and s7-* are those of document 01's sections 6 and 7. The answers in data/ come from a checker that was written
-// from the document alone, in another language; they are for a store that is long enough.
+// from the document and docs/DECISIONS.md, in another language; they are for a store that is long enough.
 use checker::Answer;
 use libc::STDOUT_FILENO;
 ghost use Rattle.io.specs.Counts.{Counts};

@@ -63,7 +63,8 @@ pub fn pigeons_by_new_names(holes: i64) -> (String, u64) {
     proof.id = formula.clauses.len() as i64;
     let mut variables = formula.variables;
     // Which variable says that a pigeon sits in a hole; the ids of "each pigeon sits somewhere" and "not both there".
-    let mut sits: Vec<Vec<i64>> = (0..=holes).map(|pigeon| (0..holes).map(|hole| pigeon * holes + hole + 1).collect()).collect();
+    let mut sits: Vec<Vec<i64>> =
+        (0..=holes).map(|pigeon| (0..holes).map(|hole| pigeon * holes + hole + 1).collect()).collect();
     let mut somewhere: Vec<i64> = (1..=holes + 1).collect();
     let mut apart = std::collections::BTreeMap::new();
     let mut id = holes + 1;

@@ -127,7 +127,10 @@ impl<T: Element> Part<T> {
 
     fn assert_guards(&self, name: &str) {
         let (before, behind) = (&self.all[..GUARD], &self.all[GUARD + self.length..]);
-        assert!(before.iter().chain(behind).all(|&element| element == T::of_byte(GUARD_BYTE)), "the library wrote beyond {name}");
+        assert!(
+            before.iter().chain(behind).all(|&element| element == T::of_byte(GUARD_BYTE)),
+            "the library wrote beyond {name}"
+        );
     }
 
     fn lent(&self) -> &[T] {

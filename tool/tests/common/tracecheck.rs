@@ -40,7 +40,8 @@ pub fn to_lrat(formula: &Formula, trace: &str) -> String {
         let from: Vec<i64> = antecedents.iter().map(|antecedent| ids[antecedent]).collect();
         next += 1;
         ids.insert(*number, next);
-        let words: Vec<String> = clause.iter().chain([&0]).chain(&order(&clause, &from, &clauses)).map(i64::to_string).collect();
+        let words: Vec<String> =
+            clause.iter().chain([&0]).chain(&order(&clause, &from, &clauses)).map(i64::to_string).collect();
         proof += &format!("{next} {} 0\n", words.join(" "));
         if clause.is_empty() {
             return proof;
