@@ -1,6 +1,7 @@
 -- What the functions of this crate find at a place of a text, in terms of document 01's definitions (rules' Text).
-use Prim.Native.Nat.{ℕ, suc, _+_, _≤_, _<_, min}
+use Prim.Native.Nat.{ℕ, suc, _+_, _*_, _/_, _%_, _≤_, _<_, min}
 use mathlib.Core.Path.{_≡_}
+use mathlib.Core.Logic.{_⊎_}
 use mathlib.Core.Bool.{Bool, true, false}
 use mathlib.Core.List.{List, [], _∷_}
 use mathlib.Core.Option.{Option, none, some}
@@ -102,3 +103,17 @@ pub record Plain (b : ℕ) : Type 0 where
   pub no-nought : b ≡ 48 → ⊥
   pub no-letter : b ≡ 100 → ⊥
   pub no-sign : b ≡ 45 → ⊥
+
+-- The first token of the text s, which begins at the place `at`, is a number of this size, and takes so many bytes together with
+-- the blanks before it. Its code is twice the size, and 1 more if it is negative.
+abbrev pub ShortCase : ℕ → List ℕ → ℕ → ℕ → ℕ → Type 0
+ShortCase at s size code bytes = ((code ≡ 2 * size) × Scans at s (Plus size) (at + bytes)) ⊎ ((code ≡ 2 * size + 1) × Scans at s (Minus size) (at + bytes))
+
+pub record ShortNumber (at : ℕ) (s : List ℕ) (code bytes : ℕ) : Type 0 where
+  pub size : ℕ
+  pub positive : 1 ≤ size
+  pub case : ShortCase at s size code bytes
+
+-- A short number as one number: 16 times its code, and its bytes. Of 0 nothing is said.
+pub record Short (at : ℕ) (s : List ℕ) (r : ℕ) : Type 0 where
+  pub is : 1 ≤ r → ShortNumber at s (r / 16) (r % 16)

