@@ -3,3 +3,4 @@ pub mod Partials
 pub mod Coding
 pub mod Feedings
 pub mod Readings
+pub mod Alongs

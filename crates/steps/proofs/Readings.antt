@@ -20,7 +20,7 @@ use Rattle.clauses.specs.Codes.{literalOf, hintOf, half}
 use Rattle.formula.proofs.Fillings.{placed-length}
 use Rattle.steps.specs.Partials.{Partial, atStart, resume, Advance, ends, unreadable, advance, afterwards, reach, taken}
 use Rattle.steps.specs.Feeding.{phaseOf, partialOf, Begun, Stands, Midway, GoesOn, Adds, Deletes, FeedCase, Feeds}
-use Rattle.steps.specs.Reading.{BeginsStep, AtEndCase, AtEnd, UnreadCase, Unread, StepNone, StepStopped, LargeIn, StepShort, StepCase, ReadsStep}
+use Rattle.steps.specs.Reading.{Reading, BeginsStep, AtEndCase, AtEnd, UnreadCase, Unread, StepNone, StepStopped, LargeIn, StepShort, StepCase, ReadsStep}
 use Rattle.steps.specs.declared.feeding.Kind.{Kind}
 use Rattle.steps.specs.declared.feeding.Kind.the-variants.{Start, Body, Literals, Hints, Ids}
 use Rattle.steps.specs.declared.feeding.Phase.{Phase}
@@ -80,7 +80,7 @@ step-short cells s at used lits hints lits′ hints′ stop end many h =
 
 -- A scan stays in the text.
 
-scanned-within : (s : List ℕ) (at : ℕ) (t : Found) (n : ℕ) → at ≤ length s → Scans at (drop at s) t n → (at ≤ n) × (n ≤ length s)
+pub scanned-within : (s : List ℕ) (at : ℕ) (t : Found) (n : ℕ) → at ≤ length s → Scans at (drop at s) t n → (at ≤ n) × (n ≤ length s)
 scanned-within s at t n h r =
     let rest = drop (blanks (drop at s)) (drop at s) in
     (omega (arith, r .is-next), omega (arith, r .is-next, word-short rest, length-drop (blanks (drop at s)) (drop at s), length-drop at s, blanks-short (drop at s)))
@@ -98,18 +98,6 @@ stored-taken Body n new told b = (omega (arith, ap length (b .1), ap length (b .
 stored-taken Literals n new told b = (omega (arith, length-map new literalOf, ap length (b .1)), omega (arith, length-map new literalOf))
 stored-taken Hints n new told b = (omega (arith, length-map new literalOf, length-map told hintOf), omega (arith, length-map new literalOf, length-map told hintOf))
 stored-taken Ids n new told b = (omega (arith, length-map told half, ap length b), omega (arith, length-map told half))
-
--- Where the reader stands between two tokens: those of `front` are read, and make the part of a step that the phase and the
--- slices say.
-pub record Reading (cells : ℕ) (s : List ℕ) (at used : ℕ) (lits₀ hints₀ lits hints : List ℕ) (i : ℕ) (phase : Phase) : Type 0 where
-  pub sofar : Partial
-  pub front : List Token
-  pub split : tokens (drop at s) ≡ front ++ tokens (drop i s)
-  pub reached : reach atStart front ≡ some sofar
-  pub stands : Stands cells sofar phase lits₀ used lits hints₀ hints
-  pub moved : at < i → 1 ≤ length front
-  pub later : at ≤ i
-  pub within : i ≤ length s
 
 pub reading-start : (cells : ℕ) (s : List ℕ) (at used : ℕ) (lits hints : List ℕ) (phase : Phase) → phase ≡ phaseOf Start 0 used 0 → at ≤ length s → used ≤ length lits
     → Reading cells s at used lits hints lits hints at phase

@@ -1,11 +1,12 @@
 -- What reading a step from a text comes to, in terms of document 01's `readStep`.
-use Prim.Native.Nat.{ℕ, _+_, _<_, _≤_}
+use Prim.Native.Nat.{ℕ, _+_, _*_, _<_, _≤_}
 use mathlib.Core.Path.{_≡_}
 use mathlib.Core.Logic.{_⊎_}
 use mathlib.Core.Bool.{Bool, true, false}
 use mathlib.Core.List.{List, [], _∷_, _++_, map}
 use mathlib.Core.Option.{none, some}
 use lib.ListN.{length, drop}
+use Rattle.rules.specs.Limits.{maxVariable, maxId}
 use Rattle.rules.specs.Text.{Token, tokens}
 use Rattle.rules.specs.Steps.{add, delete, readStep}
 use Rattle.text.specs.declared.Token.{Token as Found}
@@ -13,7 +14,9 @@ use Rattle.text.specs.declared.Token.the-variants.{Nothing}
 use Rattle.clauses.specs.Codes.{literalOf, hintOf, half}
 use Rattle.formula.specs.Body.{Placed, AllBelow}
 use Rattle.steps.specs.Partials.{Partial, atStart, reach}
-use Rattle.steps.specs.Feeding.{IsId, TooLarge}
+use Rattle.steps.specs.Feeding.{codes, phaseOf, IsId, Stands, TooLarge}
+use Rattle.steps.specs.declared.feeding.Kind.the-variants.{Literals, Hints}
+use Rattle.steps.specs.declared.feeding.Phase.{Phase}
 use Rattle.steps.specs.declared.StepRead.{StepRead}
 use Rattle.steps.specs.declared.StepRead.the-variants.{Addition, Deletion, Nothing as NoStep, Unreadable, TooShort}
 
@@ -35,6 +38,37 @@ UnreadCase t at i next end many (TooShort x e m) = ⊥
 
 pub record Unread (t : Found) (at i next end many : ℕ) (r : StepRead) : Type 0 where
   pub case : UnreadCase t at i next end many r
+
+-- Where the reader stands between two tokens: those of `front` are read, and make the part of a step that the phase and the
+-- slices say.
+pub record Reading (cells : ℕ) (s : List ℕ) (at used : ℕ) (lits₀ hints₀ lits hints : List ℕ) (i : ℕ) (phase : Phase) : Type 0 where
+  pub sofar : Partial
+  pub front : List Token
+  pub split : tokens (drop at s) ≡ front ++ tokens (drop i s)
+  pub reached : reach atStart front ≡ some sofar
+  pub stands : Stands cells sofar phase lits₀ used lits hints₀ hints
+  pub moved : at < i → 1 ≤ length front
+  pub later : at ≤ i
+  pub within : i ≤ length s
+
+-- Short numbers below `limit` were taken one after the other from `from` up to `next`, and their codes stand in the slice from
+-- `first` up to `end`: a reader of literals, or of hints, that stood at `from` stands at `next`.
+pub record Along (s : List ℕ) (from first limit : ℕ) (slots slots′ : List ℕ) (next end : ℕ) : Type 0 where
+  pub literals : (cells start used : ℕ) (lits₀ hints₀ hints : List ℕ) (n many : ℕ) → limit ≤ cells → limit ≤ 2 * maxVariable + 2
+      → Reading cells s start used lits₀ hints₀ slots hints from (phaseOf Literals n first many)
+      → Reading cells s start used lits₀ hints₀ slots′ hints next (phaseOf Literals n end many)
+  pub hints : (cells start used : ℕ) (lits₀ hints₀ lits : List ℕ) (n place : ℕ) → limit ≤ 2 * maxId + 2
+      → Reading cells s start used lits₀ hints₀ lits slots from (phaseOf Hints n place first)
+      → Reading cells s start used lits₀ hints₀ lits slots′ next (phaseOf Hints n place end)
+  pub later : from ≤ next
+  pub within : next ≤ length s
+  pub long : length slots′ ≡ length slots
+
+-- A reader that stood at `from` with this phase stands at `next` with that one.
+pub record GoesOnward (cells : ℕ) (s : List ℕ) (from : ℕ) (phase : Phase) (lits hints lits′ hints′ : List ℕ) (next : ℕ) (phase′ : Phase) : Type 0 where
+  pub on : (start used : ℕ) (lits₀ hints₀ : List ℕ) → Reading cells s start used lits₀ hints₀ lits hints from phase → Reading cells s start used lits₀ hints₀ lits′ hints′ next phase′
+  pub later : from ≤ next
+  pub within : next ≤ length s
 
 -- The tokens begin with the beginning of a step that has at least so many tokens, and more are left.
 pub record BeginsStep (ts : List Token) (codes : ℕ) : Type 0 where

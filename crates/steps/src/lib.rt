@@ -1,22 +1,25 @@
 // Steps of a proof: read from bytes, by document 01, section 4.
 //
 // The way of the data: `text` finds the token at a place; `feeding` makes of it one piece more of a step; here is the loop over
-// the two. A step is read and not judged: nothing is promised of its ids, its literals or its hints but that they are what the
-// text says. Of an unreadable step it is promised that it is found out, and of slices that are too short that they are; either
-// way the first `used` of `lits` stay.
+// the two. Literals and hints that are short numbers, as nearly all are, are taken in a loop of their own (`along`), which does
+// to the slices what `feeding` would have done. A step is read and not judged: nothing is promised of its ids, its literals or
+// its hints but that they are what the text says. Of an unreadable step it is promised that it is found out, and of slices that
+// are too short that they are; either way the first `used` of `lits` stay.
 //
-// The turns of the loop can be told from what is returned: one for each token taken (exactly, behind a whole step; up to two
-// tokens more than there are codes, where it stopped), one more where it stopped or nothing was left, and the bytes passed for
-// the leaves below.
+// The turns of the two loops can be told from what is returned: one for each token taken (exactly, behind a whole step; up to
+// two tokens more than there are codes, where it stopped), one more where it stopped or nothing was left, and the bytes passed
+// for the leaves below. A short number has no loop below it, and the look that finds none takes no more than the byte behind
+// the token before it is charged for.
 pub mod feeding;
 
 use feeding::Fed;
 use feeding::Kind;
 use feeding::Phase;
 use text::Token;
-ghost use Prim.Native.Nat.{_≤_};
+ghost use mathlib.Core.Path.{_≡_};
+ghost use Prim.Native.Nat.{_<_, _≤_, _^_};
 ghost use lib.ListN.{length};
-ghost use Rattle.steps.specs.Reading.{AtEnd, Unread, ReadsStep};
+ghost use Rattle.steps.specs.Reading.{AtEnd, Unread, Along, GoesOnward, ReadsStep};
 
 // What reading a step came to, and the place behind it; or the place where it stopped, and what had been stored by then.
 pub enum StepRead {
@@ -80,6 +83,117 @@ fn unread(t: Token, at: usize, i: usize, next: usize, end: usize, many: usize) -
     StepRead::Nothing { next: next }
 }
 
+// How far numbers were taken: the place behind the last one in the text, and in the slice.
+struct Passed {
+    next: usize,
+    end: usize,
+}
+
+// The lesser of two numbers.
+fn least(x: u64, y: u64) -> u64
+    ensures { λ r. ⌜ (r ≤ x) × (r ≤ y) ⌝ }
+{
+    if x < y { x } else { y }
+}
+
+// A code, as the slices hold it.
+fn narrow(x: u64) -> u32
+    requires { ⌜ x < 2 ^ 32 ⌝ }
+    ensures { λ r. ⌜ r ≡ x ⌝ }
+{
+    x as u32
+}
+
+// Takes short numbers one after the other from `from` on, as long as their codes are below `limit` and there is room for them
+// in the slice from `first` on. Nearly all tokens of a proof in use are taken here; whatever is not as expected is left to
+// `feed`, which decides.
+fn along(s: &[u8], from: usize, first: usize, limit: u64, slots: &mut [u32]) -> Passed
+    requires { ⌜ from ≤ length (now s) ⌝ }
+    requires { ⌜ limit ≤ 2 ^ 32 ⌝ }
+    ensures { λ r. ⌜ Along (now (s .entry)) from first limit (now (slots .entry)) (now (slots .exit)) (r .next) (r .end) ⌝ }
+{
+    let mut i = from;
+    let mut end = first;
+    while end < slots.len() {
+        let r = text::short_at(s, i);
+        if r == 0 {
+            return Passed { next: i, end: end };
+        }
+        let code = r / 16;
+        if limit <= code {
+            return Passed { next: i, end: end };
+        }
+        slots[end] = narrow(code);
+        end += 1;
+        i += clauses::index(r % 16);
+    }
+    Passed { next: i, end: end }
+}
+
+// Where a reader stands, and at which place.
+struct Onward {
+    phase: Phase,
+    next: usize,
+}
+
+// A reader that stands at `from` takes the literals or hints that follow there.
+fn go_on(
+    s: &[u8],
+    from: usize,
+    phase: Phase,
+    cells: usize,
+    lits: &mut [u32],
+    hints: &mut [u32],
+) -> Onward
+    requires { ⌜ from ≤ length (now s) ⌝ }
+    ensures { λ r. ⌜ GoesOnward cells (now (s .entry)) from phase (now (lits .entry)) (now (hints .entry)) (now (lits .exit)) (now (hints .exit)) (r .next) (r .phase) ⌝ }
+{
+    let kind = phase.kind;
+    match kind {
+        Kind::Start => Onward {
+            phase: phase,
+            next: from,
+        },
+        Kind::Body => Onward {
+            phase: phase,
+            next: from,
+        },
+        Kind::Literals => {
+            let limit = least(clauses::count(cells), 33554432);
+            let p = along(s, from, phase.end, limit, lits);
+            let end = p.end;
+            let now = Phase {
+                kind: Kind::Literals,
+                id: phase.id,
+                end: end,
+                many: phase.many,
+            };
+            Onward {
+                phase: now,
+                next: p.next,
+            }
+        }
+        Kind::Hints => {
+            let p = along(s, from, phase.many, 536870912, hints);
+            let end = p.end;
+            let now = Phase {
+                kind: Kind::Hints,
+                id: phase.id,
+                end: phase.end,
+                many: end,
+            };
+            Onward {
+                phase: now,
+                next: p.next,
+            }
+        }
+        Kind::Ids => Onward {
+            phase: phase,
+            next: from,
+        },
+    }
+}
+
 // The step at `at`. Its literals go behind the first `used` of `lits`, its hints or ids to the start of `hints`.
 pub fn read_step(
     s: &[u8],
@@ -107,8 +221,9 @@ pub fn read_step(
         let fed = feeding::feed(phase, t, cells, lits, hints);
         match fed {
             Fed::More(p) => {
-                phase = p;
-                i = next;
+                let on = go_on(s, next, p, cells, lits, hints);
+                phase = on.phase;
+                i = on.next;
             }
             Fed::Addition { id, end, many } => {
                 return StepRead::Addition {

@@ -4,7 +4,8 @@ use Prim.Native.Nat.{_-_}
 use mathlib.Core.Path.{refl}
 use native.Mathlib.Omega.{arith}
 use lib.ListN.{length}
-use Rattle.steps.proofs.Readings.{Reading, reading-start, reading-lits, reading-hints, reading-next, reading-on, reading-added, reading-deleted, reading-short, reading-unread}
+use Rattle.steps.specs.Reading.{Reading}
+use Rattle.steps.proofs.Readings.{reading-start, reading-lits, reading-hints, reading-next, reading-on, reading-added, reading-deleted, reading-short, reading-unread}
 use borrow.Author.Needs.{needs}
 use Rattle.steps.proofs.read_step.Statement.{statement}
 use Rattle.steps.proofs.read_step.Tie as tie
@@ -27,11 +28,14 @@ feed-requires c κs = search needs
 enum-known-fed : tie.Need-enum-known-fed Inv-loop μ-loop
 enum-known-fed c = search needs
 
+go-on-requires : tie.Need-go-on-requires Inv-loop μ-loop
+go-on-requires c κs = reading-next _ _ _ _ _ _ _ _ _ _ (c .before .before .before .before .before .before .before .before .before .before .before .before .before .loop .inv) _ _ (c .before .before .before .before .before .before .before .before .before .before .before .before .token-at .ensures) _ _ _ (c .before .before .before .before .before .before .before .before .before .feed .ensures) _ (c .before .before .before .fed .given .1) .within
+
 loop-less : tie.Need-loop-less Inv-loop μ-loop
-loop-less c = let taken = reading-next _ _ _ _ _ _ _ _ _ _ (c .before .before .before .before .before .before .before .before .before .before .before .loop .inv) _ _ (c .before .before .before .before .before .before .before .before .before .before .token-at .ensures) _ _ _ (c .before .before .before .before .before .before .before .feed .ensures) _ (c .before .fed .given .1) in omega (arith, taken .later, taken .within)
+loop-less c = omega (arith, reading-next _ _ _ _ _ _ _ _ _ _ (c .before .before .before .before .before .before .before .before .before .before .before .before .before .before .before .before .before .before .before .loop .inv) _ _ (c .before .before .before .before .before .before .before .before .before .before .before .before .before .before .before .before .before .before .token-at .ensures) _ _ _ (c .before .before .before .before .before .before .before .before .before .before .before .before .before .before .before .feed .ensures) _ (c .before .before .before .before .before .before .before .before .before .fed .given .1) .later, c .before .before .before .before .before .go-on .ensures .later, c .before .before .before .before .before .go-on .ensures .within)
 
 loop-again : tie.Need-loop-again Inv-loop μ-loop
-loop-again c = reading-on _ _ _ _ _ _ _ _ _ _ (c .before .before .before .before .before .before .before .before .before .before .before .loop .inv) _ _ (c .before .before .before .before .before .before .before .before .before .before .token-at .ensures) _ _ _ (c .before .before .before .before .before .before .before .feed .ensures) _ (c .before .fed .given .1)
+loop-again c = c .before .before .before .before .before .go-on .ensures .on _ _ _ _ (reading-on _ _ _ _ _ _ _ _ _ _ (c .before .before .before .before .before .before .before .before .before .before .before .before .before .before .before .before .before .before .before .loop .inv) _ _ (c .before .before .before .before .before .before .before .before .before .before .before .before .before .before .before .before .before .before .token-at .ensures) _ _ _ (c .before .before .before .before .before .before .before .before .before .before .before .before .before .before .before .feed .ensures) _ (c .before .before .before .before .before .before .before .before .before .fed .given .1))
 
 enum-known-fed-2 : tie.Need-enum-known-fed-2 Inv-loop μ-loop
 enum-known-fed-2 c = search needs
@@ -94,6 +98,7 @@ read-step-spec =
     token-at-requires
     feed-requires
     enum-known-fed
+    go-on-requires
     loop-less
     loop-again
     enum-known-fed-2
