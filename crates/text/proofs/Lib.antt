@@ -3,3 +3,4 @@ pub mod Places
 pub mod Numbers
 pub mod Wordings
 pub mod Tokens
+pub mod Shorts

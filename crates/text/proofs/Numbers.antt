@@ -11,7 +11,7 @@ use lib.ListN.{length, drop, getD}
 use Rattle.meaning.proofs.Truth.{bool-cases}
 use Rattle.rules.specs.Text.{isBlank, isDigit, digits, positive, word}
 use Rattle.rules.proofs.Words.{digit-range, digit-not-blank}
-use Rattle.text.specs.Scan.{most, endsWord, sized, Stops, Numbered, Ran, Positive}
+use Rattle.text.specs.Scan.{most, endsWord, sized, Stops, Numbered, Ran, Digits, Positive}
 use Rattle.text.proofs.Places.{word-end, word-on, word-stop, ends-empty, ends-end, ends-not, digit-by, no-digit-below, no-digit-above}
 
 -- Sized numbers
@@ -57,11 +57,6 @@ module _ (s : List ℕ) (i v : ℕ) where
       record { is-value = rw (w, d, digits) (r .is-value); is-next = λ z. omega (arith, ap length w, r .is-next z) }
 
 -- A run of digits
-
--- Where a run stands that has not gone above `most`: what is found from i on with v is what is found from the start.
-pub record Digits (s : List ℕ) (first from v i : ℕ) : Type 0 where
-  pub small : v ≤ most
-  pub back : (x n : ℕ) → Numbered v i (drop i s) x n → Numbered first from (drop from s) x n
 
 pub digits-start : (s : List ℕ) (first from : ℕ) → first ≤ most → Digits s first from first from
 digits-start s first from h = record { small = h; back = λ x n r. r }

@@ -46,6 +46,11 @@ pub record Ran (s : List ℕ) (first from v i : ℕ) : Type 0 where
   pub back : (x n : ℕ) → Numbered v i (drop i s) x n → Numbered first from (drop from s) x n
   pub stops : v ≤ most → Stops s i
 
+-- Where a run stands that has not gone above `most`: what is found from i on with v is what is found from the start.
+pub record Digits (s : List ℕ) (first from v i : ℕ) : Type 0 where
+  pub small : v ≤ most
+  pub back : (x n : ℕ) → Numbered v i (drop i s) x n → Numbered first from (drop from s) x n
+
 -- A token as this crate gives it.
 abbrev pub capped : Token → Scanned
 capped nought = Nought
@@ -103,6 +108,44 @@ pub record Plain (b : ℕ) : Type 0 where
   pub no-nought : b ≡ 48 → ⊥
   pub no-letter : b ≡ 100 → ⊥
   pub no-sign : b ≡ 45 → ⊥
+
+-- How far the byte b is above the digit 0, if it is a digit, and else 10 or more.
+pub record AboveNought (b r : ℕ) : Type 0 where
+  pub few : r ≤ 255
+  pub is : r < 10 → b ≡ r + 48
+
+-- One of two numbers, by whether d is the worth of a digit.
+pub record Picked (d no yes r : ℕ) : Type 0 where
+  pub is-yes : d < 10 → r ≡ yes
+  pub is-no : 10 ≤ d → r ≡ no
+
+-- Some of the three bytes from `from` on, as digits behind `first`: 32 times what they say with it, and `more` and their number.
+pub record UpToThree (s : List ℕ) (first from more r : ℕ) : Type 0 where
+  pub value : ℕ
+  pub count : ℕ
+  pub is : r ≡ 32 * value + (more + count)
+  pub few : count ≤ 3
+  pub least : first ≤ value
+  pub large : value ≤ first * 1000 + 999
+  pub run : Digits s first from value (from + count)
+
+-- A number of this size stands behind the place `at`, and takes so many bytes together with the one at `at`.
+pub record UnsignedNumber (s : List ℕ) (at size bytes : ℕ) : Type 0 where
+  pub positive : 1 ≤ size
+  pub plain : Plain (getD s (at + 1) 0)
+  pub number : Positive (at + 1) (drop (at + 1) s) size (at + bytes)
+
+-- The word behind the place `at` as a number of up to seven digits: 32 times its size, and how many bytes it takes with the one
+-- at `at`. Of 0 nothing is said.
+pub record Unsigned (s : List ℕ) (at r : ℕ) : Type 0 where
+  pub small : r / 32 ≤ 9999999
+  pub few : r % 32 ≤ 8
+  pub is : 1 ≤ r → UnsignedNumber s at (r / 32) (r % 32)
+
+-- 1 only for a sign, and else 0.
+pub record Sign (b r : ℕ) : Type 0 where
+  pub few : r ≤ 1
+  pub is : 1 ≤ r → b ≡ 45
 
 -- The first token of the text s, which begins at the place `at`, is a number of this size, and takes so many bytes together with
 -- the blanks before it. Its code is twice the size, and 1 more if it is negative.

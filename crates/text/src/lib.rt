@@ -4,13 +4,13 @@
 // proofs/Tokens.antt says that no test of a limit can tell the difference. What a token may be used for is not decided here.
 //
 // Every loop here moves one byte on with each turn, so the turns are the bytes passed: `next - at`, and for a word that is no
-// number up to twice that, since its end is looked for from its beginning.
+// number up to twice that, since its end is looked for from its beginning. `short_at` and what it calls have no loop.
 ghost use mathlib.Core.Path.{_≡_};
 ghost use mathlib.Core.Bool.{false};
 ghost use Prim.Native.Nat.{_+_, _*_, _<_, _≤_};
 ghost use lib.ListN.{length, drop, getD};
 ghost use Rattle.rules.specs.Text.{isBlank, word};
-ghost use Rattle.text.specs.Scan.{most, blanks, endsWord, Stops, Numbered, Ran, Positive, OneByte, Plain, Guessing, Wording, Scans, isOther, Short};
+ghost use Rattle.text.specs.Scan.{most, blanks, endsWord, Stops, Numbered, Ran, Positive, OneByte, Plain, Guessing, Wording, Scans, isOther, AboveNought, Picked, UpToThree, Unsigned, Sign, Short};
 
 // A token. A number is given by its size, at most 10^18. `Nothing` is the end of the text.
 pub enum Token {
@@ -306,11 +306,89 @@ pub fn token_at(s: &[u8], at: usize) -> Scanned
     settle(s, p, found)
 }
 
-// The first token from `at` on, if it is a number of few digits with a space before and behind it, as nearly all are: 16 times
-// its code, and how many bytes it takes with the space before it. 0 if it is not, or if the text is about to end.
+// How far a byte is above the digit 0. A byte below it wraps, so that one test tells the digits from all other bytes.
+fn digit(b: u8) -> u64
+    ensures { λ r. ⌜ AboveNought b r ⌝ }
+{
+    wide(std::num::wrapping_sub_u8(b, 48))
+}
+
+// This is compiled to a conditional move: how many digits a number has is hard to foresee, and a branch on it costs more.
+fn pick(d: u64, no: u64, yes: u64) -> u64
+    ensures { λ r. ⌜ Picked d no yes r ⌝ }
+{
+    if d < 10 { yes } else { no }
+}
+
+// Up to three digits more, from `from` on, behind a number that is `first` so far: 32 times the number, and `more` and how many
+// digits there were. All three bytes are read before it is known which of them count.
+fn three(s: &[u8], from: usize, first: u64, more: u64) -> u64
+    requires { ⌜ from + 2 < length (now s) ⌝ }
+    requires { ⌜ first ≤ 9999 ⌝ }
+    requires { ⌜ more ≤ 5 ⌝ }
+    ensures { λ r. ⌜ UpToThree (now (s .entry)) first from more r ⌝ }
+{
+    let d1 = digit(s[from]);
+    let d2 = digit(s[from + 1]);
+    let d3 = digit(s[from + 2]);
+    let v1 = first * 10 + d1;
+    let v2 = v1 * 10 + d2;
+    let v3 = v2 * 10 + d3;
+    let r2 = pick(d3, v2 * 32 + more + 2, v3 * 32 + more + 3);
+    let r1 = pick(d2, v1 * 32 + more + 1, r2);
+    pick(d1, first * 32 + more, r1)
+}
+
+// The number of up to seven digits behind the place `at`, if a space is behind it: 32 times its size, and how many bytes it
+// takes with the one at `at`. 0 if it is none.
+fn unsigned(s: &[u8], at: usize) -> u64
+    requires { ⌜ at + 8 < length (now s) ⌝ }
+    ensures { λ r. ⌜ Unsigned (now (s .entry)) at r ⌝ }
+{
+    let first = digit(s[at + 1]);
+    if first < 1 {
+        return 0;
+    }
+    if 9 < first {
+        return 0;
+    }
+    let r = three(s, at + 2, first, 2);
+    if s[at + ((r % 32) as usize)] == 32 {
+        return r;
+    }
+    if r % 32 < 5 {
+        return 0;
+    }
+    let q = three(s, at + 5, r / 32, 5);
+    if s[at + ((q % 32) as usize)] == 32 {
+        return q;
+    }
+    0
+}
+
+// 1 for a sign. It is added and not branched on, since signs are hard to foresee.
+fn sign_of(b: u8) -> u64
+    ensures { λ r. ⌜ Sign b r ⌝ }
+{
+    if b == 45 { 1 } else { 0 }
+}
+
+// The first token from `at` on, if it is a number of up to seven digits with a space before and behind it, as nearly all are:
+// 16 times its code, and how many bytes it takes with the space before it. 0 if it is not, or if the text is about to end.
 pub fn short_at(s: &[u8], at: usize) -> u64
     requires { ⌜ at ≤ length (now s) ⌝ }
     ensures { λ r. ⌜ Short at (drop at (now (s .entry))) r ⌝ }
 {
-    0
+    if s.len() - at < 16 {
+        return 0;
+    }
+    if s[at] != 32 {
+        return 0;
+    }
+    let sign = sign_of(s[at + 1]);
+    let r = unsigned(s, at + (sign as usize));
+    if r < 1 {
+        return 0;
+    }
+    r + 17 * sign
 }

@@ -3,7 +3,8 @@
 use Prim.Native.Nat.{_-_}
 use native.Mathlib.Omega.{arith}
 use lib.ListN.{length}
-use Rattle.text.proofs.Numbers.{Digits, digits-start, digits-on, ran-past, ran-below, ran-above, ran-long}
+use Rattle.text.specs.Scan.{Digits}
+use Rattle.text.proofs.Numbers.{digits-start, digits-on, ran-past, ran-below, ran-above, ran-long}
 use borrow.Author.Needs.{needs}
 use Rattle.text.proofs.run.Statement.{statement}
 use Rattle.text.proofs.run.Tie as tie

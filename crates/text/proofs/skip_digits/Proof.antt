@@ -4,8 +4,8 @@ use Prim.Native.Nat.{_-_}
 use mathlib.Core.Path.{refl}
 use native.Mathlib.Omega.{arith}
 use lib.ListN.{length}
-use Rattle.text.specs.Scan.{most}
-use Rattle.text.proofs.Numbers.{Digits, digits-start, digits-stay, ran-past, ran-below, ran-above}
+use Rattle.text.specs.Scan.{most, Digits}
+use Rattle.text.proofs.Numbers.{digits-start, digits-stay, ran-past, ran-below, ran-above}
 use borrow.Author.Needs.{needs}
 use Rattle.text.proofs.skip_digits.Statement.{statement}
 use Rattle.text.proofs.skip_digits.Tie as tie
