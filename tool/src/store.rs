@@ -120,6 +120,17 @@ pub fn enough_to_check(formula: usize, proof: usize) -> Sizes {
     }
 }
 
+/// A million guesses are enough for a proof of some gigabytes whose clauses are deleted when they are not used any more. So the
+/// table, of which a new id takes the next place, does not grow with the length of such a proof.
+const GUESSES: usize = 1 << 20;
+
+/// How many guesses are made room for: one for each clause that may be alive at a time. The library uses a power of 2 of them.
+fn guesses(clauses: usize, proof: usize) -> usize {
+    let alive = clauses.max(GUESSES).max(proof / 4096);
+    let all = clauses + FEW + proof / 32;
+    alive.min(all).next_power_of_two()
+}
+
 /// The lengths that a check is tried with first. A step of a proof in use takes some 50 bytes or more, and most of them are
 /// deleted again.
 pub fn first_to_check(formula: usize, proof: usize, announced: Announced) -> Sizes {
@@ -129,7 +140,7 @@ pub fn first_to_check(formula: usize, proof: usize, announced: Announced) -> Siz
         heads: 2 * clauses + 2 + FEW + proof / 8,
         lits: formula / 2 + FEW + proof / 8,
         hints: one_step,
-        guess: clauses + FEW + proof / 32,
+        guess: guesses(clauses, proof),
         marks: 2 * announced.variables + 2 + FEW,
         tape: announced.variables + one_step,
     };
@@ -146,7 +157,7 @@ pub fn lean_to_check(formula: &[u8], proof: usize, announced: Announced, limit: 
         heads: 2 * clauses + 2,
         lits: words_in(formula).saturating_sub(clauses),
         hints: one_step,
-        guess: usize::try_from(limit / 64).unwrap_or(usize::MAX).min(clauses + FEW + proof / 32),
+        guess: usize::try_from(limit / 64).unwrap_or(usize::MAX).min(guesses(clauses, proof)),
         marks: 2 * announced.variables + 2,
         tape: announced.variables + one_step,
     };
