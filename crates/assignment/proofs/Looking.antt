@@ -1,7 +1,8 @@
 -- Laws of looking at a clause: what is kept of the literals that are not false says what the document's definition, which
--- takes them out first, says. Assumes nothing.
-use Prim.Native.Nat.{ℕ, _+_, _-_, _<_, _≤_}
+-- takes them out first, says. The code keeps it as two numbers, and the laws as a value of `Open`. Assumes nothing.
+use Prim.Native.Nat.{ℕ, zero, suc, _+_, _<_, _≤_}
 use mathlib.Core.Path.{_≡_, refl, sym, ap, subst, _∙_}
+use mathlib.Core.Logic.{⊎-elim}
 use mathlib.Core.Bool.{true, false}
 use mathlib.Core.List.{List, [], _∷_, map}
 use native.Mathlib.Numerals.{add-one}
@@ -12,39 +13,104 @@ use lib.ListN.{length, getD, drop, drop-of-length-le}
 use lib.Seq.{drop-cons}
 use Rattle.meaning.specs.Meaning.{Literal, Clause}
 use Rattle.meaning.proofs.Truth.{bool-cases}
-use Rattle.rules.specs.Judging.{opposite, sameLiteral, among, without, Trail, notFalse, neither, lookOf, lookAt}
+use Rattle.rules.specs.Judging.{opposite, sameLiteral, among, without, Trail, notFalse, Look, allFalse, neither, lookOf, lookAt}
 use Rattle.clauses.specs.Codes.{literalOf, oppositeCode}
 use Rattle.clauses.proofs.Literals.{same-literal}
+use Rattle.clauses.proofs.Numbers.{cut}
 use Rattle.assignment.specs.Marks.{markOf, Shows, Paired, Marked}
-use Rattle.assignment.specs.Sight.{In, ForcedIn, Looks, oneMore, opened, BelowCase, OpenBelow, concluded, OneForced, Concludes}
+use Rattle.assignment.specs.Sight.{In, ForcedIn, Looks, Counted, Latest, OneForced, OneLooks}
 use Rattle.assignment.specs.declared.Look.{Look as Sight}
 use Rattle.assignment.specs.declared.Look.the-variants.{AllFalse, Forces, Neither}
-use Rattle.assignment.specs.declared.Open.{Open}
-use Rattle.assignment.specs.declared.Open.the-variants.{Nothing, One, Many}
 use Rattle.assignment.proofs.Marking.{shows-true, shows-untrue, paired-opposite}
 
--- One literal
+-- The literals that are not false
 
-pub opened-false : (o : Open) (x mark : ℕ) → (mark ≡ 0 → ⊥) → opened o x mark ≡ o
+-- None, one however often it is written, or more.
+pub data Open : Type 0 where
+  nothing : Open
+  one : ℕ → Open
+  many : Open
+
+-- One more literal that is not false, behind others.
+abbrev oneMore : Open → ℕ → Open
+oneMore nothing x = one x
+oneMore (one y) x = elim (eqb y x) [ true ↦ one y | false ↦ many ]
+oneMore many x = many
+
+-- One more literal, with its mark.
+opened : Open → ℕ → ℕ → Open
+opened o x mark = elim (eqb mark 0) [ true ↦ oneMore o x | false ↦ o ]
+
+-- What follows from them, under the assignment a.
+concluded : Trail → Open → Look
+concluded a nothing = allFalse
+concluded a (one x) = lookOf a (literalOf x ∷ [])
+concluded a many = neither
+
+opened-false : (o : Open) (x mark : ℕ) → (mark ≡ 0 → ⊥) → opened o x mark ≡ o
 unfolding opened
 opened-false o x mark d = rw (ne-eqb mark 0 d, opened)
 
-pub opened-not-false : (o : Open) (x mark : ℕ) → mark ≡ 0 → opened o x mark ≡ oneMore o x
+opened-not-false : (o : Open) (x mark : ℕ) → mark ≡ 0 → opened o x mark ≡ oneMore o x
 unfolding opened
 opened-not-false o x mark e = rw (eq-eqb mark 0 e, opened)
 
--- The answers of `open_with`.
-pub opened-first : (o : Open) (x mark : ℕ) → mark ≡ 0 → o ≡ Nothing → One x ≡ opened o x mark
-opened-first o x mark e q = sym (opened-not-false o x mark e ∙ ap (λ (p : Open). oneMore p x) q)
+-- As two numbers: how often one was met that is not the one met before it, and the last of them.
+pub openOf : ℕ → ℕ → Open
+openOf zero last = nothing
+openOf (suc zero) last = one last
+openOf (suc (suc more)) last = many
 
-pub opened-again : (o : Open) (x mark y : ℕ) → mark ≡ 0 → o ≡ One y → y ≡ x → One y ≡ opened o x mark
-opened-again o x mark y e q s = sym (opened-not-false o x mark e ∙ (ap (λ (p : Open). oneMore p x) q ∙ rw (eq-eqb y x s, oneMore)))
+open-none : (others last : ℕ) → others ≡ 0 → openOf others last ≡ nothing
+unfolding openOf
+open-none others last e = rw e
 
-pub opened-second : (o : Open) (x mark y : ℕ) → mark ≡ 0 → o ≡ One y → (y ≡ x → ⊥) → Many ≡ opened o x mark
-opened-second o x mark y e q d = sym (opened-not-false o x mark e ∙ (ap (λ (p : Open). oneMore p x) q ∙ rw (ne-eqb y x d, oneMore)))
+open-single : (others last : ℕ) → others ≡ 1 → openOf others last ≡ one last
+unfolding openOf
+open-single others last e = rw e
 
-pub opened-many : (o : Open) (x mark : ℕ) → mark ≡ 0 → o ≡ Many → Many ≡ opened o x mark
-opened-many o x mark e q = sym (opened-not-false o x mark e ∙ ap (λ (p : Open). oneMore p x) q)
+open-more : (others last : ℕ) → 2 ≤ others → openOf others last ≡ many
+unfolding openOf
+open-more zero last h = absurd (omega arith)
+open-more (suc zero) last h = absurd (omega arith)
+open-more (suc (suc more)) last h = refl
+
+-- The numbers follow, as long as no literal is what stands for the last one where there is none.
+module _ (others last x mark r last′ : ℕ) (k : Counted last x mark r) (l : Latest last x mark last′) where
+  numbers-again : mark ≡ 0 → x ≡ last → openOf (others + r) last′ ≡ openOf others last
+  numbers-again e q =
+      let same : others + r ≡ others = omega (arith, k .again e q) in
+      let kept : last′ ≡ last = l .taken e ∙ q in
+      rw (same, kept)
+
+  numbers-first : mark ≡ 0 → others ≡ 0 → (x ≡ last → ⊥) → oneMore (openOf others last) x ≡ openOf (others + r) last′
+  numbers-first e none new =
+      ap (λ (o : Open). oneMore o x) (open-none others last none)
+      ∙ (ap one (sym (l .taken e)) ∙ sym (open-single (others + r) last′ (omega (arith, k .another e new))))
+
+  numbers-second : mark ≡ 0 → others ≡ 1 → oneMore (openOf others last) x ≡ openOf (others + r) last′
+  numbers-second e single =
+      ap (λ (o : Open). oneMore o x) (open-single others last single)
+      ∙ bool-cases (eqb last x)
+      (λ y. rw (y, oneMore) (sym (open-single others last single) ∙ sym (numbers-again e (sym (eqb-true last x y)))))
+      (λ n. rw (n, oneMore) (sym (open-more (others + r) last′ (omega (arith, k .another e (λ q. eqb-false last x n (sym q)))))))
+
+  numbers-more : mark ≡ 0 → 2 ≤ others → oneMore (openOf others last) x ≡ openOf (others + r) last′
+  numbers-more e lots = ap (λ (o : Open). oneMore o x) (open-more others last lots) ∙ sym (open-more (others + r) last′ (omega arith))
+
+  numbers-on : (others ≡ 0 → x ≡ last → ⊥) → opened (openOf others last) x mark ≡ openOf (others + r) last′
+  numbers-on new =
+      bool-cases (eqb mark 0)
+      (λ y. let e = eqb-true mark 0 y in
+      opened-not-false (openOf others last) x mark e
+      ∙ ⊎-elim
+      (λ none. numbers-first e (omega arith) (new (omega arith)))
+      (λ some. ⊎-elim (λ single. numbers-second e (omega arith)) (λ lots. numbers-more e lots) (cut others 2))
+      (cut others 1))
+      (λ n.
+      let d : mark ≡ 0 → ⊥ = eqb-false mark 0 n in
+      let same : others + r ≡ others = omega (arith, k .passed d) in
+      opened-false (openOf others last) x mark d ∙ rw (same, l .passed d))
 
 -- A clause
 
@@ -71,13 +137,13 @@ module _ (a : Trail) (x : ℕ) (xs : List ℕ) where
   unfolding notFalse
   keep-not-false e = rw (e, notFalse)
 
-open-many : (a : Trail) (xs : List ℕ) → openAll a Many xs ≡ Many
+open-many : (a : Trail) (xs : List ℕ) → openAll a many xs ≡ many
 unfolding openAll
 open-many a [] = refl
 open-many a (x ∷ xs) =
     bool-cases (among (opposite (literalOf x)) a)
-    (λ y. open-false a x xs Many y ∙ open-many a xs)
-    (λ n. open-not-false a x xs Many n ∙ open-many a xs)
+    (λ y. open-false a x xs many y ∙ open-many a xs)
+    (λ n. open-not-false a x xs many n ∙ open-many a xs)
 
 -- The first literal twice, or followed by another one.
 look-twice : (a : Trail) (l k : Literal) (c : Clause) → sameLiteral l k ≡ true → lookOf a (l ∷ k ∷ c) ≡ lookOf a (l ∷ c)
@@ -88,55 +154,62 @@ look-other : (a : Trail) (l k : Literal) (c : Clause) → sameLiteral l k ≡ fa
 unfolding lookOf without
 look-other a l k c e = rw (e, without, lookOf)
 
-open-one : (a : Trail) (x : ℕ) (xs : List ℕ) → concluded a (openAll a (One x) xs) ≡ lookOf a (literalOf x ∷ notFalse a (map literalOf xs))
+open-one : (a : Trail) (x : ℕ) (xs : List ℕ) → concluded a (openAll a (one x) xs) ≡ lookOf a (literalOf x ∷ notFalse a (map literalOf xs))
 unfolding openAll concluded lookOf notFalse without
 open-one a x [] = refl
 open-one a x (y ∷ xs) =
     bool-cases (among (opposite (literalOf y)) a)
-    (λ t. ap (concluded a) (open-false a y xs (One x) t) ∙ (open-one a x xs ∙ ap (λ (c : Clause). lookOf a (literalOf x ∷ c)) (sym (drop-false a y xs t))))
-    (λ n. ap (concluded a) (open-not-false a y xs (One x) n) ∙ (go (open-one a x xs) ∙ ap (λ (c : Clause). lookOf a (literalOf x ∷ c)) (sym (keep-not-false a y xs n))))
+    (λ t. ap (concluded a) (open-false a y xs (one x) t) ∙ (open-one a x xs ∙ ap (λ (c : Clause). lookOf a (literalOf x ∷ c)) (sym (drop-false a y xs t))))
+    (λ n. ap (concluded a) (open-not-false a y xs (one x) n) ∙ (go (open-one a x xs) ∙ ap (λ (c : Clause). lookOf a (literalOf x ∷ c)) (sym (keep-not-false a y xs n))))
   where
-    go : concluded a (openAll a (One x) xs) ≡ lookOf a (literalOf x ∷ notFalse a (map literalOf xs))
-        → concluded a (openAll a (oneMore (One x) y) xs) ≡ lookOf a (literalOf x ∷ literalOf y ∷ notFalse a (map literalOf xs))
+    go : concluded a (openAll a (one x) xs) ≡ lookOf a (literalOf x ∷ notFalse a (map literalOf xs))
+        → concluded a (openAll a (oneMore (one x) y) xs) ≡ lookOf a (literalOf x ∷ literalOf y ∷ notFalse a (map literalOf xs))
     go ih =
         bool-cases (eqb x y)
         (λ e. ap (λ (o : Open). concluded a (openAll a o xs)) (same-again e) ∙ (ih ∙ sym (look-twice a (literalOf x) (literalOf y) (notFalse a (map literalOf xs)) (same-literal x y ∙ e))))
         (λ d. ap (λ (o : Open). concluded a (openAll a o xs)) (another d) ∙ (ap (concluded a) (open-many a xs) ∙ sym (look-other a (literalOf x) (literalOf y) (notFalse a (map literalOf xs)) (same-literal x y ∙ d))))
       where
-        same-again : eqb x y ≡ true → oneMore (One x) y ≡ One x
+        same-again : eqb x y ≡ true → oneMore (one x) y ≡ one x
         same-again e = rw (e, oneMore)
 
-        another : eqb x y ≡ false → oneMore (One x) y ≡ Many
+        another : eqb x y ≡ false → oneMore (one x) y ≡ many
         another d = rw (d, oneMore)
 
 -- From the beginning it is the document's definition.
-pub open-look : (a : Trail) (xs : List ℕ) → lookAt a (map literalOf xs) ≡ concluded a (openAll a Nothing xs)
+open-look : (a : Trail) (xs : List ℕ) → lookAt a (map literalOf xs) ≡ concluded a (openAll a nothing xs)
 unfolding lookAt openAll concluded lookOf notFalse
 open-look a xs = sym (go xs)
   where
-    go : (xs : List ℕ) → concluded a (openAll a Nothing xs) ≡ lookOf a (notFalse a (map literalOf xs))
+    go : (xs : List ℕ) → concluded a (openAll a nothing xs) ≡ lookOf a (notFalse a (map literalOf xs))
     go [] = refl
     go (x ∷ xs) =
         bool-cases (among (opposite (literalOf x)) a)
-        (λ t. ap (concluded a) (open-false a x xs Nothing t) ∙ (go xs ∙ ap (lookOf a) (sym (drop-false a x xs t))))
-        (λ n. ap (concluded a) (open-not-false a x xs Nothing n) ∙ (open-one a x xs ∙ ap (lookOf a) (sym (keep-not-false a x xs n))))
+        (λ t. ap (concluded a) (open-false a x xs nothing t) ∙ (go xs ∙ ap (lookOf a) (sym (drop-false a x xs t))))
+        (λ n. ap (concluded a) (open-not-false a x xs nothing n) ∙ (open-one a x xs ∙ ap (lookOf a) (sym (keep-not-false a x xs n))))
 
 -- The loop
 
 -- The one literal that is not false, if there is one, stands in the clause.
 abbrev OpenIn : List ℕ → Open → Type 0
-OpenIn clause Nothing = Unit {0}
-OpenIn clause (One x) = In clause x
-OpenIn clause Many = Unit {0}
+OpenIn clause nothing = Unit {0}
+OpenIn clause (one x) = In clause x
+OpenIn clause many = Unit {0}
+
+-- What stands for the last literal where there is none.
+abbrev unseen : ℕ
+unseen = 4_294_967_295
 
 -- The literals before i were read.
-pub record Looking (clause marks : List ℕ) (o : Open) (i : ℕ) : Type 0 where
-  pub left : (a : Trail) → Shows marks a → openAll a Nothing clause ≡ openAll a o (drop i clause)
-  pub held : OpenIn clause o
+pub record Looking (clause marks : List ℕ) (others last i : ℕ) : Type 0 where
+  pub left : (a : Trail) → Shows marks a → openAll a nothing clause ≡ openAll a (openOf others last) (drop i clause)
+  pub held : OpenIn clause (openOf others last)
+  pub fresh : others ≡ 0 → last ≡ unseen
+  pub few : others ≤ i
   pub within : i ≤ length clause
 
-pub looking-start : (clause marks : List ℕ) → Looking clause marks Nothing 0
-looking-start clause marks = record { left = λ a s. refl; held = tt; within = omega arith }
+pub looking-start : (clause marks : List ℕ) → Looking clause marks 0 unseen 0
+unfolding openOf
+looking-start clause marks = record { left = λ a s. refl; held = tt; fresh = λ e. refl; few = omega arith; within = omega arith }
 
 opened-in : (clause : List ℕ) (o : Open) (x mark : ℕ) → OpenIn clause o → In clause x → OpenIn clause (opened o x mark)
 opened-in clause o x mark h new =
@@ -145,56 +218,61 @@ opened-in clause o x mark h new =
     (λ n. rw (opened-false o x mark (eqb-false mark 0 n)) h)
   where
     go : (o : Open) → OpenIn clause o → OpenIn clause (oneMore o x)
-    go Nothing h = new
-    go (One y) h = bool-cases (eqb y x) (λ e. rw (e, oneMore) h) (λ d. rw (d, oneMore) tt)
-    go Many h = tt
+    go nothing h = new
+    go (one y) h = bool-cases (eqb y x) (λ e. rw (e, oneMore) h) (λ d. rw (d, oneMore) tt)
+    go many h = tt
 
-module _ (clause marks : List ℕ) (o : Open) (i : ℕ) (l : Looking clause marks o i) (more : i < length clause) (known : Marked clause marks) where
-  pub looking-on : (at : ℕ) (o′ : Open) → at ≡ getD clause i 0 → o′ ≡ opened o (getD clause i 0) (getD marks at 0) → Looking clause marks o′ (i + 1)
+module _ (clause marks : List ℕ) (others last i : ℕ) (l : Looking clause marks others last i) (known : Marked clause marks) where
+  pub looking-on : i < length clause → Paired marks → (at : ℕ) → at ≡ getD clause i 0 → (r last′ : ℕ) → Counted last (getD clause i 0) (getD marks at 0) r → Latest last (getD clause i 0) (getD marks at 0) last′
+      → Looking clause marks (others + r) last′ (i + 1)
   unfolding openAll
-  looking-on at o′ e q = record {
-    left = λ a s.
-        let mark : getD marks at 0 ≡ markOf (among (opposite (literalOf (getD clause i 0))) a) = rw e (s .at (getD clause i 0) (known .below i more)) in
-        l .left a s ∙ rw (drop-cons clause i 0 more, q, mark, add-one i);
-    held = rw q (opened-in clause o (getD clause i 0) (getD marks at 0) (l .held) (record { place = i; inside = more; is = refl }));
-    within = omega arith;
-  }
+  looking-on more paired at e r last′ k m =
+      let below = known .below i more in
+      let unlike : others ≡ 0 → getD clause i 0 ≡ last → ⊥ = λ none q. omega (arith, below, paired .small, l .fresh none) in
+      let next = numbers-on others last (getD clause i 0) (getD marks at 0) r last′ k m unlike in
+      record {
+        left = λ a s.
+            let mark : getD marks at 0 ≡ markOf (among (opposite (literalOf (getD clause i 0))) a) = rw e (s .at (getD clause i 0) below) in
+            l .left a s ∙ rw (drop-cons clause i 0 more, ← next, mark, add-one i);
+        held = rw (← next) (opened-in clause (openOf others last) (getD clause i 0) (getD marks at 0) (l .held) (record { place = i; inside = more; is = refl }));
+        fresh = λ none.
+            let before : others ≡ 0 = omega arith in
+            bool-cases (eqb (getD marks at 0) 0)
+            (λ y. absurd (omega (arith, k .another (eqb-true (getD marks at 0) 0 y) (unlike before))))
+            (λ n. m .passed (eqb-false (getD marks at 0) 0 n) ∙ l .fresh before);
+        few = omega (arith, k .few, l .few);
+        within = omega arith;
+      }
 
-below-case : (clause marks : List ℕ) (o : Open) → OpenIn clause o → Marked clause marks → BelowCase o (length marks)
-below-case clause marks Nothing h k = tt
-below-case clause marks (One x) h k = rw (h .is) at (k .below (h .place) (h .inside))
-below-case clause marks Many h k = tt
-
-module _ (clause marks : List ℕ) (o : Open) (i : ℕ) (l : Looking clause marks o i) (known : Marked clause marks) where
-  pub looking-below : OpenBelow o (length marks)
-  looking-below = record { case = below-case clause marks o (l .held) known }
-
-  forced-in : (r : Sight) → OneForced o marks r → ForcedIn clause marks r
-  forced-in AllFalse f = tt
-  forced-in (Forces x) f = record { stands = subst (OpenIn clause) (f .0) (l .held); free = f .1 }
-  forced-in Neither f = tt
-
-  pub looking-done : length clause ≤ i → (r : Sight) → Concludes o marks r → Looks clause marks r
+  all : length clause ≤ i → (a : Trail) → Shows marks a → lookAt a (map literalOf clause) ≡ concluded a (openOf others last)
   unfolding openAll
-  looking-done end r k = record {
-    says = λ a s.
-        let all : openAll a Nothing clause ≡ o = l .left a s ∙ rw (drop-of-length-le clause end) in
-        open-look a clause ∙ (ap (concluded a) all ∙ k .says a s);
-    forced = forced-in r (k .forced);
-  }
+  all end a s = open-look a clause ∙ ap (concluded a) (l .left a s ∙ rw (drop-of-length-le clause end))
 
--- The end
+  -- The answers.
+  pub looking-none : length clause ≤ i → others ≡ 0 → Looks clause marks AllFalse
+  unfolding concluded
+  looking-none end e = record { says = λ a s. all end a s ∙ ap (concluded a) (open-none others last e); forced = tt }
 
-pub concludes-none : (o : Open) (marks : List ℕ) → o ≡ Nothing → Concludes o marks AllFalse
-unfolding concluded
-concludes-none o marks e = record { says = λ a s. ap (concluded a) e; forced = tt }
+  stands : others ≡ 1 → In clause last
+  stands e = subst (OpenIn clause) (open-single others last e) (l .held)
 
-pub concludes-many : (o : Open) (marks : List ℕ) → o ≡ Many → Concludes o marks Neither
-unfolding concluded
-concludes-many o marks e = record { says = λ a s. ap (concluded a) e; forced = tt }
+  pub looking-below : others ≡ 1 → last < length marks
+  looking-below e = rw (stands e .is) at (known .below (stands e .place) (stands e .inside))
 
-pub concludes-one : (o : Open) (marks : List ℕ) (x : ℕ) (r : Sight) → o ≡ One x → Concludes (One x) marks r → Concludes o marks r
-concludes-one o marks x r e k = rw e k
+  forced-in : others ≡ 1 → (r : Sight) → OneForced last marks r → ForcedIn clause marks r
+  forced-in e AllFalse f = tt
+  forced-in e (Forces x) f = record { stands = subst (In clause) (f .0) (stands e); free = f .1 }
+  forced-in e Neither f = tt
+
+  pub looking-one : length clause ≤ i → others ≡ 1 → (r : Sight) → OneLooks last marks r → Looks clause marks r
+  unfolding concluded
+  looking-one end e r k = record { says = λ a s. all end a s ∙ (ap (concluded a) (open-single others last e) ∙ k .says a s); forced = forced-in e r (k .forced) }
+
+  pub looking-more : length clause ≤ i → (others ≡ 0 → ⊥) → (others ≡ 1 → ⊥) → Looks clause marks Neither
+  unfolding concluded
+  looking-more end some more = record { says = λ a s. all end a s ∙ ap (concluded a) (open-more others last (omega arith)); forced = tt }
+
+-- One literal alone
 
 module _ (x : ℕ) (marks : List ℕ) (p : Paired marks) (h : x < length marks) (at opp : ℕ) (e : at ≡ opp) (q : opp ≡ oppositeCode x) where
   place : at ≡ oppositeCode x
@@ -203,14 +281,10 @@ module _ (x : ℕ) (marks : List ℕ) (p : Paired marks) (h : x < length marks) 
   pub one-inside : at < length marks
   one-inside = rw place (paired-opposite marks p x h)
 
-  pub one-true : (getD marks at 0 ≡ 0 → ⊥) → Concludes (One x) marks Neither
-  unfolding concluded
-  one-true d = record { says = λ a s. rw (shows-true marks a s x (paired-opposite marks p x h) (rw place at d), concluded); forced = tt }
+  pub one-true : (getD marks at 0 ≡ 0 → ⊥) → OneLooks x marks Neither
+  unfolding lookOf without
+  one-true d = record { says = λ a s. rw (shows-true marks a s x (paired-opposite marks p x h) (rw place at d), lookOf); forced = tt }
 
-  pub one-forced : getD marks at 0 ≡ 0 → Concludes (One x) marks (Forces x)
-  unfolding concluded
-  one-forced z = record { says = λ a s. rw (shows-untrue marks a s x (paired-opposite marks p x h) (rw place at z), concluded); forced = (refl, rw place at z) }
-
--- The one literal that is not false has a mark.
-pub below-one : (o : Open) (m x : ℕ) → OpenBelow o m → o ≡ One x → x < m
-below-one o m x b e = subst (λ (p : Open). BelowCase p m) e (b .case)
+  pub one-forced : getD marks at 0 ≡ 0 → OneLooks x marks (Forces x)
+  unfolding lookOf without
+  one-forced z = record { says = λ a s. rw (shows-untrue marks a s x (paired-opposite marks p x h) (rw place at z), lookOf); forced = (refl, rw place at z) }

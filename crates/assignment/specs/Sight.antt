@@ -1,17 +1,13 @@
 -- What one look at a clause shows, in terms of document 01's rule 3 (rules' Judging).
-use Prim.Native.Nat.{ℕ, _<_}
+use Prim.Native.Nat.{ℕ, _<_, _≤_}
 use mathlib.Core.Path.{_≡_}
-use mathlib.Core.Bool.{true, false}
-use mathlib.Core.List.{List, map}
-use lib.Dec.{eqb}
+use mathlib.Core.List.{List, [], _∷_, map}
 use lib.ListN.{length, getD}
-use Rattle.rules.specs.Judging.{among, Trail, Look, allFalse, forces, neither, lookAt}
+use Rattle.rules.specs.Judging.{Trail, Look, allFalse, forces, neither, lookOf, lookAt}
 use Rattle.clauses.specs.Codes.{literalOf, oppositeCode}
 use Rattle.assignment.specs.Marks.{Shows}
 use Rattle.assignment.specs.declared.Look.{Look as Sight}
 use Rattle.assignment.specs.declared.Look.the-variants.{AllFalse, Forces, Neither}
-use Rattle.assignment.specs.declared.Open.{Open}
-use Rattle.assignment.specs.declared.Open.the-variants.{Nothing, One, Many}
 
 -- What an answer says, in the document's terms.
 abbrev pub sightOf : Sight → Look
@@ -40,42 +36,25 @@ pub record Looks (clause marks : List ℕ) (r : Sight) : Type 0 where
   pub says : (a : Trail) → Shows marks a → lookAt a (map literalOf clause) ≡ sightOf r
   pub forced : ForcedIn clause marks r
 
--- One more literal that is not false, behind others.
-abbrev pub oneMore : Open → ℕ → Open
-oneMore Nothing x = One x
-oneMore (One y) x = elim (eqb y x) [ true ↦ One y | false ↦ Many ]
-oneMore Many x = Many
+-- Whether a literal with this mark counts, where `last` is the last that is not false: if it is not false, and another one.
+pub record Counted (last x mark r : ℕ) : Type 0 where
+  pub another : mark ≡ 0 → (x ≡ last → ⊥) → r ≡ 1
+  pub again : mark ≡ 0 → x ≡ last → r ≡ 0
+  pub passed : (mark ≡ 0 → ⊥) → r ≡ 0
+  pub few : r ≤ 1
 
--- One more literal, with its mark.
-unfoldable pub opened : Open → ℕ → ℕ → Open
-opened o x mark = elim (eqb mark 0) [ true ↦ oneMore o x | false ↦ o ]
+-- The last literal that is not false, with one literal more and its mark.
+pub record Latest (last x mark r : ℕ) : Type 0 where
+  pub taken : mark ≡ 0 → r ≡ x
+  pub passed : (mark ≡ 0 → ⊥) → r ≡ last
 
--- A literal that alone is not false, if it is one, has a mark.
-abbrev pub BelowCase : Open → ℕ → Type 0
-BelowCase Nothing m = Unit {0}
-BelowCase (One x) m = x < m
-BelowCase Many m = Unit {0}
+-- What is forced, if something is, is this literal, and it is not true yet.
+abbrev pub OneForced : ℕ → List ℕ → Sight → Type 0
+OneForced x marks AllFalse = Unit {0}
+OneForced x marks (Forces y) = (x ≡ y) × (getD marks (oppositeCode y) 0 ≡ 0)
+OneForced x marks Neither = Unit {0}
 
-pub record OpenBelow (o : Open) (m : ℕ) : Type 0 where
-  pub case : BelowCase o m
-
--- What follows from the literals that are not false, under the assignment a.
-unfoldable pub concluded : Trail → Open → Look
-concluded a Nothing = allFalse
-concluded a (One x) = elim (among (literalOf x) a) [ true ↦ neither | false ↦ forces (literalOf x) ]
-concluded a Many = neither
-
--- What is forced, if something is, is the one literal that is not false, and it is not true yet.
-abbrev pub OneForced : Open → List ℕ → Sight → Type 0
-OneForced o marks AllFalse = Unit {0}
-OneForced o marks (Forces x) = (o ≡ One x) × (getD marks (oppositeCode x) 0 ≡ 0)
-OneForced o marks Neither = Unit {0}
-
--- What the marks say of the literals that are not false.
-pub record Concludes (o : Open) (marks : List ℕ) (r : Sight) : Type 0 where
-  pub says : (a : Trail) → Shows marks a → concluded a o ≡ sightOf r
-  pub forced : OneForced o marks r
-
--- The same, where there is exactly one.
-abbrev pub OneLooks : ℕ → List ℕ → Sight → Type 0
-OneLooks x marks r = Concludes (One x) marks r
+-- What the marks say of a literal that alone is not false.
+pub record OneLooks (x : ℕ) (marks : List ℕ) (r : Sight) : Type 0 where
+  pub says : (a : Trail) → Shows marks a → lookOf a (literalOf x ∷ []) ≡ sightOf r
+  pub forced : OneForced x marks r

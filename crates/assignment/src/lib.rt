@@ -4,20 +4,13 @@ ghost use mathlib.Core.Path.{_≡_};
 ghost use Prim.Native.Nat.{_-_, _<_};
 ghost use lib.ListN.{length};
 ghost use Rattle.assignment.specs.Marks.{Paired, Marked, Falsifies, Undoable, Undone};
-ghost use Rattle.assignment.specs.Sight.{opened, OneLooks, OpenBelow, Concludes, Looks};
+ghost use Rattle.assignment.specs.Sight.{Counted, Latest, OneLooks, Looks};
 
 // What a look at a clause shows: all its literals are false; all but one that has no value; or neither.
 pub enum Look {
     AllFalse,
     Forces(u32),
     Neither,
-}
-
-// The literals that are not false, among those looked at so far: none, one however often written, or more.
-pub enum Open {
-    Nothing,
-    One(u32),
-    Many,
 }
 
 // The literal `x` is false from now on; its number goes to the tape, behind the first `t`, unless it was false already.
@@ -51,23 +44,19 @@ pub fn undo(marks: &mut [u8], tape: &[u32], from: usize, to: usize) -> u64
     turns
 }
 
-// What is known of the literals that are not false, with one literal more and its mark.
-fn open_with(o: Open, x: u32, mark: u8) -> Open
-    ensures { λ r. ⌜ r ≡ opened o x mark ⌝ }
+// 1 if a literal with this mark is not false and is another one than the last that was not, else 0.
+fn counted(last: u32, x: u32, mark: u8) -> usize
+    ensures { λ r. ⌜ Counted last x mark r ⌝ }
 {
-    if mark != 0 {
-        return o;
-    }
-    match o {
-        Open::Nothing => Open::One(x),
-        Open::One(y) => {
-            if y == x {
-                return Open::One(y);
-            }
-            Open::Many
-        }
-        Open::Many => Open::Many,
-    }
+    let one: usize = if x == last { 0 } else { 1 };
+    if mark == 0 { one } else { 0 }
+}
+
+// The last literal that is not false, with one literal more and its mark.
+fn latest(last: u32, x: u32, mark: u8) -> u32
+    ensures { λ r. ⌜ Latest last x mark r ⌝ }
+{
+    if mark == 0 { x } else { last }
 }
 
 // A literal that alone is not false: it is forced, unless it is true already.
@@ -83,32 +72,30 @@ fn only_one(x: u32, marks: &[u8]) -> Look
     Look::Forces(x)
 }
 
-// What follows from the literals that are not false.
-fn conclude(o: Open, marks: &[u8]) -> Look
-    requires { ⌜ Paired (now marks) ⌝ }
-    requires { ⌜ OpenBelow o (length (now marks)) ⌝ }
-    ensures { λ r. ⌜ Concludes o (now (marks .entry)) r ⌝ }
-{
-    match o {
-        Open::Nothing => Look::AllFalse,
-        Open::One(x) => only_one(x, marks),
-        Open::Many => Look::Neither,
-    }
-}
-
-// Looks at a clause: all its literals are read, one turn for each.
+// Looks at a clause: all its literals are read, one turn for each. What is kept is the last literal that is not false, and how often
+// one was met that is another than the last before it: never, once however often that one is written, or more often. At first the last
+// is a number that no literal has. No branch is taken on a mark: which literals are false nobody can foretell.
 pub fn look_at(clause: &[u32], marks: &[u8]) -> Look
     requires { ⌜ Paired (now marks) ⌝ }
     requires { ⌜ Marked (now clause) (now marks) ⌝ }
     ensures { λ r. ⌜ Looks (now (clause .entry)) (now (marks .entry)) r ⌝ }
 {
-    let mut o = Open::Nothing;
+    let mut others: usize = 0;
+    let mut last: u32 = 4294967295;
     let mut i = 0;
     while i < clause.len() {
         let x = clause[i];
         let at = clauses::cell(x);
-        o = open_with(o, x, marks[at]);
+        let mark = marks[at];
+        others = others + counted(last, x, mark);
+        last = latest(last, x, mark);
         i += 1;
     }
-    conclude(o, marks)
+    if others == 0 {
+        return Look::AllFalse;
+    }
+    if others == 1 {
+        return only_one(last, marks);
+    }
+    Look::Neither
 }

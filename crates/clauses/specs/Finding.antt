@@ -20,6 +20,11 @@ pub record Searchable (heads : List ℕ) (n id : ℕ) : Type 0 where
   pub rising : Rising heads n
   pub small : id < 2 ^ 60
 
+-- Where a peek for `id` came to: the place of the live clause with this id among the first n, or n, which says nothing.
+pub record Peeked (heads : List ℕ) (n id place : ℕ) : Type 0 where
+  pub within : place ≤ n
+  pub has : place < n → idAt heads place ≡ 2 * id
+
 -- The place of the live clause with this id among the first n, or that there is none.
 abbrev pub FoundIn : List ℕ → ℕ → ℕ → Found → Type 0
 FoundIn heads n id (At place turns) = (place < n) × (idAt heads place ≡ 2 * id)

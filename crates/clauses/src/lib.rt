@@ -7,7 +7,7 @@ ghost use lib.ListN.{length, set};
 ghost use Rattle.clauses.specs.Codes.{oppositeCode};
 ghost use Rattle.clauses.specs.Counting.{Counts};
 ghost use Rattle.clauses.specs.Store.{idAt};
-ghost use Rattle.clauses.specs.Finding.{Searchable, FoundIn, turnsOf, Halvings, AtMostHalvings, reachedBy};
+ghost use Rattle.clauses.specs.Finding.{Searchable, Peeked, FoundIn, turnsOf, Halvings, AtMostHalvings, reachedBy};
 ghost use Rattle.clauses.specs.Moving.{Stored, Moved, Movable, OneMoved, AllMoved};
 
 // The place of a live clause, or that there is none; and the turns that the search took.
@@ -124,22 +124,45 @@ fn guessed(guess: &[u32], id: u64) -> usize {
     cell(guess[at])
 }
 
+// The place of the live clause `id` if the guess for it is right, else `n`. This is the first half of a `lookup`, of its own so that a
+// caller can make it ahead of time, and the memory where the clause's head stands is there once the rest is done.
+pub fn peek(heads: &[u64], n: usize, guess: &[u32], id: u64) -> usize
+    requires { ⌜ (2 * n < length (now heads)) × (id < 2 ^ 60) ⌝ }
+    ensures { λ r. ⌜ Peeked (now (heads .entry)) n id r ⌝ }
+{
+    let place = guessed(guess, id);
+    if place < n {
+        if heads[2 * place] == 2 * id {
+            return place;
+        }
+    }
+    n
+}
+
+// As `find`, behind a `peek` that came to `place`. A right guess costs no turn.
+pub fn lookup_at(heads: &[u64], n: usize, place: usize, id: u64) -> Found
+    requires { ⌜ Searchable (now heads) n id ⌝ }
+    requires { ⌜ Peeked (now heads) n id place ⌝ }
+    ensures place { λ r. ⌜ FoundIn (now (heads .entry)) n id r ⌝ }
+    ensures turns { λ r. ⌜ AtMostHalvings n (turnsOf r) ⌝ }
+{
+    if place < n {
+        return Found::At {
+            place: place,
+            turns: 0,
+        };
+    }
+    find(heads, n, id)
+}
+
 // As `find`, with a guess first, which may be wrong.
 pub fn lookup(heads: &[u64], n: usize, guess: &[u32], id: u64) -> Found
     requires { ⌜ Searchable (now heads) n id ⌝ }
     ensures place { λ r. ⌜ FoundIn (now (heads .entry)) n id r ⌝ }
     ensures turns { λ r. ⌜ AtMostHalvings n (turnsOf r) ⌝ }
 {
-    let place = guessed(guess, id);
-    if place < n {
-        if heads[2 * place] == 2 * id {
-            return Found::At {
-                place: place,
-                turns: 0,
-            };
-        }
-    }
-    find(heads, n, id)
+    let place = peek(heads, n, guess, id);
+    lookup_at(heads, n, place, id)
 }
 
 // A place, as a guess holds it.

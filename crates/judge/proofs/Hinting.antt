@@ -9,10 +9,10 @@ use lib.ListN.{length, getD, take, drop, length-map}
 use lib.Seq.{slice, length-slice, getD-drop, getD-take}
 use lib.Pow.{pow-mono, pow-add}
 use Rattle.rules.specs.Judging.{lookAt}
-use Rattle.clauses.specs.Codes.{literalOf}
+use Rattle.clauses.specs.Codes.{literalOf, half}
 use Rattle.clauses.specs.Store.{idAt, startAt, clauseAt, liveOf, Holds}
 use Rattle.clauses.proofs.Parts.{part-slice}
-use Rattle.clauses.specs.Finding.{Searchable, FoundIn, turnsOf, AtMostHalvings}
+use Rattle.clauses.specs.Finding.{Searchable, Peeked, FoundIn, turnsOf, AtMostHalvings}
 use Rattle.clauses.specs.declared.Found.{Found}
 use Rattle.clauses.specs.declared.Found.the-variants.{At, Nowhere}
 use Rattle.clauses.proofs.Entries.{clause-is, start-below}
@@ -22,7 +22,7 @@ use Rattle.assignment.specs.Marks.{Marked}
 use Rattle.assignment.specs.Sight.{sightOf, Looks}
 use Rattle.assignment.specs.declared.Look.{Look as Sight}
 use Rattle.assignment.specs.declared.Look.the-variants.{AllFalse as SightAllFalse, Forces as SightForces, Neither as SightNeither}
-use Rattle.judge.specs.Hints.{Ready, shownOf, Lookable, LooksAt, Seen, HintCase, Hints}
+use Rattle.judge.specs.Hints.{Ready, shownOf, Lookable, LooksAt, Seen, HintCase, Hints, Ahead}
 use Rattle.judge.specs.declared.hints.Shown.{Shown}
 use Rattle.judge.specs.declared.hints.Shown.the-variants.{NotLive, Forces}
 
@@ -56,6 +56,9 @@ module _ (heads lits : List ℕ) (n : ℕ) (marks : List ℕ) (ready : Ready hea
 
   pub ready-searchable : (id : ℕ) → id < 2 ^ 60 → Searchable heads n id
   ready-searchable id h = store-searchable heads lits n (ready .used) (ready .last) (ready .store) id h
+
+  pub ready-room : 2 * n < length heads
+  ready-room = omega (arith, ready .store .room)
 
   module _ (place : ℕ) (h : place < n) where
     below-used : startAt heads (place + 1) ≤ ready .used
@@ -137,6 +140,15 @@ module _ (heads lits : List ℕ) (n : ℕ) (marks : List ℕ) (ready : Ready hea
       counted = omega arith;
       case = (holds-lacks heads lits n (ready .used) (ready .last) (liveOf heads lits n) holds id (subst (FoundIn heads n id) e in-store), refl);
     }
+
+-- The peek for a hint is the one for its id.
+
+module _ (heads : List ℕ) (n : ℕ) (hints : List ℕ) (i to place id : ℕ) (e : id ≡ half (getD hints i 0)) where
+  pub ahead-from : Peeked heads n id place → Ahead heads n hints i to place
+  ahead-from p = record { peeked = λ more. rw (← e) p }
+
+  pub ahead-here : i < to → Ahead heads n hints i to place → Peeked heads n id place
+  ahead-here more a = rw e (a .peeked more)
 
 -- The answer of `look_there`.
 module _ (heads lits marks : List ℕ) (place before : ℕ) (l : Lookable heads lits marks place) (start end : ℕ) (p : start ≡ startAt heads place) (q : end ≡ startAt heads (place + 1)) where

@@ -10,7 +10,7 @@ use Rattle.meaning.specs.Meaning.{Clause}
 use Rattle.rules.specs.Judging.{Live, find, hintNotLive, hintNotForced, Trail, Look, allFalse, forces, neither, lookAt, Taken, conflict, badHint, hintsEnd, takeHints}
 use Rattle.clauses.specs.Codes.{literalOf, oppositeCode, half}
 use Rattle.clauses.specs.Store.{startAt, liveOf, Store}
-use Rattle.clauses.specs.Finding.{AtMostHalvings}
+use Rattle.clauses.specs.Finding.{Peeked, AtMostHalvings}
 use Rattle.clauses.specs.Counting.{Reaches}
 use Rattle.assignment.specs.Marks.{Shows, Paired, Marked, Laid}
 use Rattle.assignment.specs.Sight.{Looks}
@@ -146,6 +146,10 @@ pub record TakesOne (heads lits : List ℕ) (n : ℕ) (marks tape : List ℕ) (t
 -- The ids of the hints from `from` up to `to`.
 unfoldable pub idsIn : List ℕ → ℕ → ℕ → List ℕ
 idsIn hints from to = map half (slice from to hints)
+
+-- Where the peek for the i-th hint came to, if it is one of those up to `to`.
+pub record Ahead (heads : List ℕ) (n : ℕ) (hints : List ℕ) (i to place : ℕ) : Type 0 where
+  pub peeked : i < to → Peeked heads n (half (getD hints i 0)) place
 
 -- No hint is taken behind one with this effect.
 abbrev pub stopsAt : Effect → Bool

@@ -2,13 +2,17 @@
 //
 // The turns are counted: one for each hint that is looked at, one for each halving of the search for its clause, and one for
 // each literal of that clause. They are counted up to the greatest number, so that no slice can be too long.
+//
+// The place of a hint's clause is peeked at one hint ahead, before the clause of the hint in front of it is looked at. So the memory
+// where that head stands is fetched while there is something else to do, and is there when it is needed. A peek takes no turn.
 use assignment::Look;
 use clauses::Found;
 ghost use mathlib.Core.Path.{_≡_};
-ghost use Prim.Native.Nat.{_<_, _≤_, _^_};
+ghost use Prim.Native.Nat.{_*_, _<_, _≤_, _^_};
 ghost use lib.ListN.{length};
 ghost use Rattle.clauses.specs.Store.{liveOf};
-ghost use Rattle.judge.specs.Hints.{Ready, shownOf, Lookable, LooksAt, Hints, Forcible, ForcesOne, TakesOne, idsIn, stopsAt, howBy, Span, Takes};
+ghost use Rattle.clauses.specs.Finding.{Peeked};
+ghost use Rattle.judge.specs.Hints.{Ready, shownOf, Lookable, LooksAt, Hints, Forcible, ForcesOne, TakesOne, idsIn, Ahead, stopsAt, howBy, Span, Takes};
 
 // What a hint shows: its clause is not live; all its literals are false; all but one that has no value; or neither.
 pub enum Shown {
@@ -52,13 +56,14 @@ fn look_there(heads: &[u64], lits: &[u32], marks: &[u8], place: usize, turns: u6
     }
 }
 
-// What the hint `id` shows.
-pub fn hint(heads: &[u64], n: usize, guess: &[u32], lits: &[u32], marks: &[u8], id: u64) -> Hinted
+// What the hint `id` shows, behind a peek that came to `place`.
+pub fn hint(heads: &[u64], n: usize, place: usize, lits: &[u32], marks: &[u8], id: u64) -> Hinted
     requires { ⌜ Ready (now heads) (now lits) n (now marks) ⌝ }
     requires { ⌜ id < 2 ^ 60 ⌝ }
+    requires { ⌜ Peeked (now heads) n id place ⌝ }
     ensures { λ r. ⌜ Hints (now (heads .entry)) (now (lits .entry)) n (now (marks .entry)) id (r .shown) (r .turns) ⌝ }
 {
-    let found = clauses::lookup(heads, n, guess, id);
+    let found = clauses::lookup_at(heads, n, place, id);
     match found {
         Found::At { place, turns } => look_there(heads, lits, marks, place, turns),
         Found::Nowhere { turns } => Hinted {
@@ -106,11 +111,11 @@ fn force(marks: &mut [u8], tape: &mut [u32], t: usize, x: u32, turns: u64) -> To
     }
 }
 
-// Takes the hint `id`.
+// Takes the hint `id`, behind a peek that came to `place`.
 fn take_one(
     heads: &[u64],
     n: usize,
-    guess: &[u32],
+    place: usize,
     lits: &[u32],
     marks: &mut [u8],
     tape: &mut [u32],
@@ -120,9 +125,10 @@ fn take_one(
     requires { ⌜ Ready (now heads) (now lits) n (now marks) ⌝ }
     requires { ⌜ t ≤ length (now tape) ⌝ }
     requires { ⌜ id < 2 ^ 60 ⌝ }
+    requires { ⌜ Peeked (now heads) n id place ⌝ }
     ensures { λ r. ⌜ TakesOne (now (heads .entry)) (now (lits .entry)) n (now (marks .entry)) (now (tape .entry)) t id (now (marks .exit)) (now (tape .exit)) (r .effect) (r .t) (r .turns) ⌝ }
 {
-    let h = hint(heads, n, guess, lits, marks, id);
+    let h = hint(heads, n, place, lits, marks, id);
     let turns = h.turns + 1;
     let s = h.shown;
     match s {
@@ -188,6 +194,17 @@ fn how_by(e: Effect, id: u64) -> How
     }
 }
 
+// The place of the clause of the `i`-th hint, as far as the guess for it is right. Behind the last hint there is nothing to peek at.
+fn peek_next(heads: &[u64], n: usize, guess: &[u32], hints: &[u32], i: usize, to: usize) -> usize
+    requires { ⌜ (2 * n < length (now heads)) × (to ≤ length (now hints)) ⌝ }
+    ensures { λ r. ⌜ Ahead (now (heads .entry)) n (now (hints .entry)) i to r ⌝ }
+{
+    if i < to {
+        return clauses::peek(heads, n, guess, clauses::half(hints[i]));
+    }
+    n
+}
+
 // Takes the hints from `from` up to `to`, with `t` numbers on the tape.
 pub fn take_hints(
     heads: &[u64],
@@ -209,9 +226,12 @@ pub fn take_hints(
     let mut i = from;
     let mut at = t;
     let mut turns: u64 = 0;
+    let mut ahead = peek_next(heads, n, guess, hints, from, to);
     while i < to {
         let id = clauses::half(hints[i]);
-        let r = take_one(heads, n, guess, lits, marks, tape, at, id);
+        let place = ahead;
+        ahead = peek_next(heads, n, guess, hints, i + 1, to);
+        let r = take_one(heads, n, place, lits, marks, tape, at, id);
         turns = clauses::plus(turns, r.turns);
         at = r.t;
         let e = r.effect;

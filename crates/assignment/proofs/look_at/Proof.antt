@@ -1,18 +1,18 @@
--- `assignment::look_at` meets its contract. The loop's invariant: what is known of the literals before i, and the literals
--- from i on, say what the whole clause says (`Looking`). The measure is what is left of the clause. Assumes nothing.
+-- `assignment::look_at` meets its contract. The loop's invariant: the two numbers that are kept of the literals before i, and the
+-- literals from i on, say what the whole clause says (`Looking`). The measure is what is left of the clause. Assumes nothing.
 use Prim.Native.Nat.{_-_}
 use native.Mathlib.Omega.{arith}
 use lib.ListN.{length}
-use Rattle.assignment.proofs.Looking.{Looking, looking-start, looking-on, looking-below, looking-done}
+use Rattle.assignment.proofs.Looking.{Looking, looking-start, looking-on, looking-none, looking-below, looking-one, looking-more}
 use borrow.Author.Needs.{needs}
 use Rattle.assignment.proofs.look_at.Statement.{statement}
 use Rattle.assignment.proofs.look_at.Tie as tie
 
 abbrev Inv-loop : tie.InvT-loop
-Inv-loop clause marks o₀ i₀ o i = Looking clause marks o i
+Inv-loop clause marks others₀ last₀ i₀ others last i = Looking clause marks others last i
 
 abbrev μ-loop : tie.MeasureT-loop
-μ-loop clause marks o₀ i₀ o i = length clause - i
+μ-loop clause marks others₀ last₀ i₀ others last i = length clause - i
 
 loop-holds : tie.Need-loop-holds Inv-loop μ-loop
 loop-holds c = looking-start _ _
@@ -26,26 +26,38 @@ shared-slice-read-x c = search needs
 cell-requires : tie.Need-cell-requires Inv-loop μ-loop
 cell-requires c κs = search needs
 
-shared-slice-read-open-with : tie.Need-shared-slice-read-open-with Inv-loop μ-loop
-shared-slice-read-open-with c = rw (c .before .cell .ensures) (c .before .before .before .before .before .before .before .pre .1 .below _ (c .before .before .before .loop-test .taken))
+shared-slice-read-mark : tie.Need-shared-slice-read-mark Inv-loop μ-loop
+shared-slice-read-mark c = rw (c .before .cell .ensures) (c .before .before .before .before .before .before .before .pre .1 .below _ (c .before .before .before .loop-test .taken))
 
-open-with-requires : tie.Need-open-with-requires Inv-loop μ-loop
-open-with-requires c κs = search needs
+counted-requires : tie.Need-counted-requires Inv-loop μ-loop
+counted-requires c κs = search needs
+
+add-others : tie.Need-add-others Inv-loop μ-loop
+add-others c = omega (arith, c .counted .ensures .few, c .before .before .before .before .before .loop .inv .few, c .before .before .before .before .loop-test .taken)
+
+latest-requires : tie.Need-latest-requires Inv-loop μ-loop
+latest-requires c κs = search needs
 
 add-i : tie.Need-add-i Inv-loop μ-loop
 add-i c = search needs
 
 loop-less : tie.Need-loop-less Inv-loop μ-loop
-loop-less c = omega (arith, c .before .before .before .before .loop-test .taken)
+loop-less c = omega (arith, c .before .before .before .before .before .loop-test .taken)
 
 loop-again : tie.Need-loop-again Inv-loop μ-loop
-loop-again c = looking-on _ _ _ _ (c .before .before .before .before .before .loop .inv) (c .before .before .before .before .loop-test .taken) (c .before .before .before .before .before .before .before .before .pre .1) _ _ (c .before .before .cell .ensures) (c .open-with .ensures)
-
-conclude-requires : tie.Need-conclude-requires Inv-loop μ-loop
-conclude-requires c κs = (c .before .before .before .before .pre .0, looking-below _ _ _ _ (c .before .loop .inv) (c .before .before .before .before .pre .1))
+loop-again c = looking-on _ _ _ _ _ (c .before .before .before .before .before .before .loop .inv) (c .before .before .before .before .before .before .before .before .before .pre .1) (c .before .before .before .before .before .loop-test .taken) (c .before .before .before .before .before .before .before .before .before .pre .0) _ (c .before .before .before .cell .ensures) _ _ (c .before .counted .ensures) (c .latest .ensures)
 
 returns : tie.Need-returns Inv-loop μ-loop
-returns c = looking-done _ _ _ _ (c .before .before .loop .inv) (c .before .before .before .before .before .pre .1) (c .before .loop-test .left) _ (c .conclude .ensures)
+returns c = looking-none _ _ _ _ _ (c .before .before .loop .inv) (c .before .before .before .before .before .pre .1) (c .before .loop-test .left) (c .if1 .taken)
+
+only-one-requires : tie.Need-only-one-requires Inv-loop μ-loop
+only-one-requires c κs = (c .before .before .before .before .before .before .pre .0, looking-below _ _ _ _ _ (c .before .before .before .loop .inv) (c .before .before .before .before .before .before .pre .1) (c .if2 .taken))
+
+returns-2 : tie.Need-returns-2 Inv-loop μ-loop
+returns-2 c = looking-one _ _ _ _ _ (c .before .before .before .before .loop .inv) (c .before .before .before .before .before .before .before .pre .1) (c .before .before .before .loop-test .left) (c .before .if2 .taken) _ (c .only-one .ensures)
+
+returns-3 : tie.Need-returns-3 Inv-loop μ-loop
+returns-3 c = looking-more _ _ _ _ _ (c .before .before .before .loop .inv) (c .before .before .before .before .before .before .pre .1) (c .before .before .loop-test .left) (c .before .if1 .left) (c .if2 .left)
 
 pub look-at-spec : {M : Type 1} → statement M
 look-at-spec =
@@ -57,10 +69,14 @@ look-at-spec =
     mul-x
     shared-slice-read-x
     cell-requires
-    shared-slice-read-open-with
-    open-with-requires
+    shared-slice-read-mark
+    counted-requires
+    add-others
+    latest-requires
     add-i
     loop-less
     loop-again
-    conclude-requires
-    returns)
+    returns
+    only-one-requires
+    returns-2
+    returns-3)

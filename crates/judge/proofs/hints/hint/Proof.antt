@@ -6,32 +6,32 @@ use borrow.Author.Needs.{needs}
 use Rattle.judge.proofs.hints.hint.Statement.{statement}
 use Rattle.judge.proofs.hints.hint.Tie as tie
 
-lookup-requires : tie.Need-lookup-requires
-lookup-requires c κs = ready-searchable _ _ _ _ (c .before .before .before .before .pre .0) _ (c .before .before .before .before .pre .1)
+lookup-at-requires : tie.Need-lookup-at-requires
+lookup-at-requires c κs = (ready-searchable _ _ _ _ (c .before .before .before .pre .0) _ (c .before .before .before .pre .1 .0), c .before .before .before .pre .1 .1)
 
 enum-known-found : tie.Need-enum-known-found
 enum-known-found c = search needs
 
 look-there-requires : tie.Need-look-there-requires
 look-there-requires c κs = (
-  found-lookable _ _ _ _ (c .before .before .before .before .before .before .before .before .pre .0) _ _ (c .before .before .before .lookup .ensures .0) (c .before .before .before .lookup .ensures .1) (omega arith) _ _ (c .before .found .given .1),
-  found-short-at _ _ _ _ (c .before .before .before .before .before .before .before .before .pre .0) _ _ (c .before .before .before .lookup .ensures .0) (c .before .before .before .lookup .ensures .1) (omega arith) _ _ (c .before .found .given .1),
+  found-lookable _ _ _ _ (c .before .before .before .before .before .before .before .pre .0) _ _ (c .before .before .before .lookup-at .ensures .0) (c .before .before .before .lookup-at .ensures .1) (omega arith) _ _ (c .before .found .given .1),
+  found-short-at _ _ _ _ (c .before .before .before .before .before .before .before .pre .0) _ _ (c .before .before .before .lookup-at .ensures .0) (c .before .before .before .lookup-at .ensures .1) (omega arith) _ _ (c .before .found .given .1),
 )
 
 enum-known-found-2 : tie.Need-enum-known-found-2
 enum-known-found-2 c = search needs
 
 returns : tie.Need-returns
-returns c = hint-live _ _ _ _ (c .before .before .before .before .before .before .before .before .before .pre .0) _ _ (c .before .before .before .before .lookup .ensures .0) (c .before .before .before .before .lookup .ensures .1) (omega arith) _ _ (c .before .before .found .given .1) _ _ (c .look-there .ensures)
+returns c = hint-live _ _ _ _ (c .before .before .before .before .before .before .before .before .pre .0) _ _ (c .before .before .before .before .lookup-at .ensures .0) (c .before .before .before .before .lookup-at .ensures .1) (omega arith) _ _ (c .before .before .found .given .1) _ _ (c .look-there .ensures)
 
 returns-2 : tie.Need-returns-2
-returns-2 c = hint-not-live _ _ _ _ (c .before .before .before .before .before .before .before .before .pre .0) _ _ (c .before .before .before .lookup .ensures .0) (c .before .before .before .lookup .ensures .1) (omega arith) _ (c .before .found2 .given .1)
+returns-2 c = hint-not-live _ _ _ _ (c .before .before .before .before .before .before .before .pre .0) _ _ (c .before .before .before .lookup-at .ensures .0) (c .before .before .before .lookup-at .ensures .1) (omega arith) _ (c .before .found2 .given .1)
 
 pub hint-spec : {M : Type 1} → statement M
 hint-spec =
     tie.close
     (tie.spec
-    lookup-requires
+    lookup-at-requires
     enum-known-found
     look-there-requires
     enum-known-found-2

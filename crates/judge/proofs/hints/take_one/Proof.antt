@@ -20,7 +20,7 @@ enum-known-s : tie.Need-enum-known-s
 enum-known-s c = search needs
 
 force-requires : tie.Need-force-requires
-force-requires c κs = one-forcible _ _ _ _ _ _ _ _ _ (c .before .before .before .before .before .before .hint .ensures) _ (c .before .before .before .s .given .1) (c .before .before .before .before .before .before .before .before .before .before .before .before .before .pre .0) (c .before .before .before .before .before .before .before .before .before .before .before .before .before .pre .1 .0)
+force-requires c κs = one-forcible _ _ _ _ _ _ _ _ _ (c .before .before .before .before .before .before .hint .ensures) _ (c .before .before .before .s .given .1) (c .before .before .before .before .before .before .before .before .before .before .before .before .pre .0) (c .before .before .before .before .before .before .before .before .before .before .before .before .pre .1 .0)
 
 enum-told-3 : tie.Need-enum-told-3
 enum-told-3 c = search needs
@@ -29,13 +29,13 @@ same-length : tie.Need-same-length
 same-length c = search needs
 
 returns : tie.Need-returns
-returns c = one-not-live _ _ _ _ _ _ _ _ _ (c .before .before .before .hint .ensures) (c .before .before .before .before .before .before .before .before .before .before .pre .1 .0) (c .enum-told .given .1)
+returns c = one-not-live _ _ _ _ _ _ _ _ _ (c .before .before .before .hint .ensures) (c .before .before .before .before .before .before .before .before .before .pre .1 .0) (c .enum-told .given .1)
 
 same-length-2 : tie.Need-same-length-2
 same-length-2 c = search needs
 
 returns-2 : tie.Need-returns-2
-returns-2 c = one-conflict _ _ _ _ _ _ _ _ _ (c .before .before .before .hint .ensures) (c .before .before .before .before .before .before .before .before .before .before .pre .1 .0) (c .enum-told2 .given .1)
+returns-2 c = one-conflict _ _ _ _ _ _ _ _ _ (c .before .before .before .hint .ensures) (c .before .before .before .before .before .before .before .before .before .pre .1 .0) (c .enum-told2 .given .1)
 
 same-length-3 : tie.Need-same-length-3
 same-length-3 c = search needs
@@ -50,7 +50,7 @@ same-length-5 : tie.Need-same-length-5
 same-length-5 c = search needs
 
 returns-4 : tie.Need-returns-4
-returns-4 c = one-neither _ _ _ _ _ _ _ _ _ (c .before .before .before .hint .ensures) (c .before .before .before .before .before .before .before .before .before .before .pre .1 .0) (c .enum-told3 .given .1)
+returns-4 c = one-neither _ _ _ _ _ _ _ _ _ (c .before .before .before .hint .ensures) (c .before .before .before .before .before .before .before .before .before .pre .1 .0) (c .enum-told3 .given .1)
 
 pub take-one-spec : {M : Type 1} → statement M
 take-one-spec =
