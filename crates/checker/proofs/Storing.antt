@@ -17,6 +17,7 @@ use Rattle.clauses.proofs.Literals.{variable-literal}
 use Rattle.clauses.proofs.Numbers.{cut}
 use Rattle.clauses.proofs.Entries.{clause-is, start-below}
 use Rattle.clauses.proofs.Plain.{holds-plain, holds-undeleted}
+use Rattle.assignment.specs.Sight.{In}
 use Rattle.deletion.specs.Deleting.{stateOf}
 use Rattle.deletion.proofs.Leavings.{none-dead}
 use Rattle.formula.specs.Body.{greatest}
@@ -66,12 +67,7 @@ in-clauses heads lits (suc n) b o fits i h =
         (in-clause (slice (startAt heads n) (startAt heads (suc n)) lits) j (omega (arith, long)))
 
 -- The greatest number of a list stands in it.
-record Stands (xs : List ℕ) (x : ℕ) : Type 0 where
-  pub place : ℕ
-  pub inside : place < length xs
-  pub is : getD xs place 0 ≡ x
-
-greatest-stands : (xs : List ℕ) → 1 ≤ length xs → Stands xs (greatest xs)
+greatest-stands : (xs : List ℕ) → 1 ≤ length xs → In xs (greatest xs)
 unfolding greatest
 greatest-stands [] h = absurd (omega arith)
 greatest-stands (x ∷ []) h = record { place = 0; inside = omega arith; is = omega arith }
@@ -98,7 +94,7 @@ no-mark heads lits n used top cells e h F held is-n =
     long : length (take used lits) ≡ used
     long = length-take-le used lits (held .store .fits)
 
-    s : Stands (take used lits) (greatest (take used lits))
+    s : In (take used lits) (greatest (take used lits))
     s = greatest-stands (take used lits) (rw long (h .case .0))
 
     inside : s .place < used
@@ -111,9 +107,6 @@ no-mark heads lits n used top cells e h F held is-n =
 
 -- The start of the run.
 module _ (heads lits marks : List ℕ) (n used top : ℕ) (g : Begun heads lits marks n used top) where
-  first : Between
-  first = record { n = n; used = used; last = n; dead = 0 }
-
   known : HasMarks (length marks) used top true → (i : ℕ) → i < used → getD lits i 0 < length marks
   known h i l =
       ⊎-elim
