@@ -5,18 +5,16 @@ use mathlib.Core.Logic.{_⊎_, inl, inr, ⊎-elim}
 use mathlib.Core.List.{List}
 use mathlib.Core.Option.{none, some}
 use native.Mathlib.Omega.{arith}
-use borrow.Author.Tests.{leb-true}
-use lib.Dec.{leb}
 use lib.ListN.{length, take}
 use lib.Seq.{length-take-le}
-use Rattle.meaning.specs.Meaning.{Literal, pos, neg, variable, Formula}
+use Rattle.meaning.specs.Meaning.{variable}
 use Rattle.rules.specs.Limits.{maxVariable}
-use Rattle.rules.specs.Text.{Token, nought, plus, minus, letterD, other, tokens, literal}
+use Rattle.rules.specs.Text.{Token, tokens}
 use Rattle.rules.specs.Answers.{verified, start, verdict, Refuted}
-use Rattle.rules.proofs.Options.{none-some, some-inj, only-some}
+use Rattle.rules.proofs.Options.{some-inj}
 use Rattle.rules.specs.Judging.{State}
 use Rattle.rules.proofs.Counting.{tokens-few}
-use Rattle.rules.proofs.Limited.{read-within}
+use Rattle.rules.proofs.Limited.{literal-most, read-within}
 use Rattle.rules.proofs.Running.{step-shorter}
 use Rattle.rules.proofs.Soundness.{verdict-sound}
 use Rattle.clauses.proofs.Numbers.{cut}
@@ -39,15 +37,6 @@ exact-means f p a x k e =
     x
 
 -- live
-
--- A literal's variable is within the limit of variables.
-literal-most : (m : ℕ) (t : Token) (l : Literal) → literal m t ≡ some l → variable l ≤ m
-unfolding literal
-literal-most m nought l e = none-some e
-literal-most m (plus v) l e = let r = only-some (leb v m) (pos v) l e in rw (← (r .same)) (leb-true v m (r .passed))
-literal-most m (minus v) l e = let r = only-some (leb v m) (neg v) l e in rw (← (r .same)) (leb-true v m (r .passed))
-literal-most m letterD l e = none-some e
-literal-most m other l e = none-some e
 
 -- Where a variable that there may be has no cell, there are too few marks.
 cells-above : (marks cells v : ℕ) → Cells marks cells → v ≤ maxVariable → cells ≤ 2 * v + 1 → marks ≤ 2 * v + 1
