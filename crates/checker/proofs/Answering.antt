@@ -148,7 +148,7 @@ module _ (f p heads lits hints marks tape : List ℕ) (r : FormulaRead) (heads�
             short =
                 ⊎-elim
                 (λ x. inl (rw ml at x))
-                (λ x. inr (short-same heads′ lits′ hints tape heads lits hints tape (length marks′) (length marks) (start (stored .formula)) (tokens p) (n + used + length (tokens p)) hl ll refl refl ml x))
+                (λ x. inr (short-same heads′ lits′ hints tape heads lits hints tape (length marks′) (length marks) (start (stored .formula)) (tokens p) (n + used + length (tokens p)) hl ll refl refl (λ ts g. rw ml at g) x))
                 y;
           })
 

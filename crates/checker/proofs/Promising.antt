@@ -20,12 +20,12 @@ use Rattle.rules.proofs.Soundness.{verdict-sound}
 use Rattle.clauses.proofs.Numbers.{cut}
 use Rattle.steps.specs.Reading.{LargeIn}
 use Rattle.steps.proofs.Readings.{begins-fewer}
-use Rattle.stepping.specs.Stepping.{Lacks}
 use Rattle.checker.specs.Promises.{said, Exact, Means, timeBound, stepOf, StandsIn, Leads, here, then, headsFor, litsFor, hintsFor, tapeFor, marksFor, Enough, Room, NoMark, ShortAt, ShortLater, Short, FollowsLive}
 use Rattle.checker.specs.Answering.{Cells, ChecksMarked}
 use Rattle.checker.specs.declared.Answer.{Answer}
 use Rattle.checker.specs.declared.Answer.the-variants.{Verified, TooShort}
 use Rattle.checker.proofs.Storing.{within-clauses}
+use Rattle.checker.proofs.Runs.{short-same}
 
 -- unsolvable
 
@@ -44,34 +44,23 @@ cells-above marks cells v c w h =
     ⊎-elim (λ few. omega arith) (λ many. absurd (omega (arith, c .enough (2 * v + 2) (omega arith) many (omega arith)))) (cut marks (2 * v + 2))
 
 module _ (f p heads lits hints marks tape : List ℕ) (cells : ℕ) (c : Cells (length marks) cells) where
-  lacks-marks : (n used : ℕ) (ts : List Token) → Lacks heads lits hints tape cells n used ts → Lacks heads lits hints tape (length marks) n used ts
-  lacks-marks n used ts x = record {
-    codes = x .codes;
-    step = x .step;
-    short =
-        ⊎-elim
-        (λ a. inl a)
-        (λ y. ⊎-elim (λ a. inr (inl a)) (λ z. ⊎-elim (λ a. inr (inr (inl a))) (λ w. ⊎-elim (λ a. inr (inr (inr (inl a)))) (λ g. inr (inr (inr (inr (large g))))) w) z) y)
-        (x .short);
+  large-marks : (ts : List Token) → LargeIn cells ts → LargeIn (length marks) ts
+  large-marks ts g = record {
+    front = g .front;
+    token = g .token;
+    rest = g .rest;
+    is = g .is;
+    sofar = g .sofar;
+    reached = g .reached;
+    large = record {
+      id = g .large .id;
+      others = g .large .others;
+      large = g .large .large;
+      is = g .large .is;
+      says = g .large .says;
+      above = cells-above (length marks) cells (variable (g .large .large)) c (literal-most maxVariable (g .token) (g .large .large) (g .large .says)) (g .large .above);
+    };
   }
-    where
-      large : LargeIn cells ts → LargeIn (length marks) ts
-      large g = record {
-        front = g .front;
-        token = g .token;
-        rest = g .rest;
-        is = g .is;
-        sofar = g .sofar;
-        reached = g .reached;
-        large = record {
-          id = g .large .id;
-          others = g .large .others;
-          large = g .large .large;
-          is = g .large .is;
-          says = g .large .says;
-          above = cells-above (length marks) cells (variable (g .large .large)) c (literal-most maxVariable (g .token) (g .large .large) (g .large .says)) (g .large .above);
-        };
-      }
 
   later-marks : ShortLater f p heads lits hints tape cells → ShortLater f p heads lits hints tape (length marks)
   later-marks x = record {
@@ -89,18 +78,7 @@ module _ (f p heads lits hints marks tape : List ℕ) (cells : ℕ) (c : Cells (
           occurs = y .occurs;
           above = cells-above (length marks) cells (y .variable) c (omega (arith, within-clauses (x .formula .vars) (y .variable) (x .formula .clauses) (w .all-within) (y .occurs), w .few-variables)) (y .above);
         }))
-        (λ y.
-        inr
-        (record {
-          state = y .state;
-          rest = y .rest;
-          leads = y .leads;
-          n = y .n;
-          used = y .used;
-          twice = y .twice;
-          few = y .few;
-          lacks = lacks-marks (y .n) (y .used) (y .rest) (y .lacks);
-        }))
+        (λ y. inr (short-same heads lits hints tape heads lits hints tape cells (length marks) (start (x .formula)) (tokens p) (x .all) refl refl refl refl large-marks y))
         (x .short);
   }
 
