@@ -7,7 +7,6 @@ use mathlib.Core.Option.{none, some}
 use native.Mathlib.Omega.{arith}
 use lib.ListN.{length, take}
 use lib.Seq.{length-take-le}
-use Rattle.meaning.specs.Meaning.{variable}
 use Rattle.rules.specs.Limits.{maxVariable}
 use Rattle.rules.specs.Text.{Token, tokens}
 use Rattle.rules.specs.Answers.{verified, start, verdict, Refuted}
@@ -18,9 +17,9 @@ use Rattle.rules.proofs.Limited.{literal-most, read-within}
 use Rattle.rules.proofs.Running.{step-shorter}
 use Rattle.rules.proofs.Soundness.{verdict-sound}
 use Rattle.clauses.proofs.Numbers.{cut}
-use Rattle.steps.specs.Reading.{LargeIn}
+use Rattle.steps.specs.Reading.{StandsIn, LargeIn}
 use Rattle.steps.proofs.Readings.{begins-fewer}
-use Rattle.checker.specs.Promises.{said, Exact, Means, timeBound, stepOf, StandsIn, Leads, here, then, headsFor, litsFor, hintsFor, tapeFor, marksFor, Enough, Room, NoMark, ShortAt, ShortLater, Short, FollowsLive}
+use Rattle.checker.specs.Promises.{said, Exact, Means, timeBound, stepOf, Leads, here, then, headsFor, litsFor, hintsFor, tapeFor, marksFor, Enough, Room, NoMark, ShortAt, ShortLater, Short, FollowsLive}
 use Rattle.checker.specs.Answering.{Cells, ChecksMarked}
 use Rattle.checker.specs.declared.Answer.{Answer}
 use Rattle.checker.specs.declared.Answer.the-variants.{Verified, TooShort}
@@ -38,6 +37,10 @@ exact-means f p a x k e =
 
 -- live
 
+-- A variable that stands in a step is within the limit.
+stands-most : (v : ℕ) (ts : List Token) → StandsIn v ts → v ≤ maxVariable
+stands-most v ts s = rw (← (s .next .is-variable)) (literal-most maxVariable (s .token) (s .next .new) (s .next .says))
+
 -- Where a variable that there may be has no cell, there are too few marks.
 cells-above : (marks cells v : ℕ) → Cells marks cells → v ≤ maxVariable → cells ≤ 2 * v + 1 → marks ≤ 2 * v + 1
 cells-above marks cells v c w h =
@@ -45,22 +48,8 @@ cells-above marks cells v c w h =
 
 module _ (f p heads lits hints marks tape : List ℕ) (cells : ℕ) (c : Cells (length marks) cells) where
   large-marks : (ts : List Token) → LargeIn cells ts → LargeIn (length marks) ts
-  large-marks ts g = record {
-    front = g .front;
-    token = g .token;
-    rest = g .rest;
-    is = g .is;
-    sofar = g .sofar;
-    reached = g .reached;
-    large = record {
-      id = g .large .id;
-      others = g .large .others;
-      large = g .large .large;
-      is = g .large .is;
-      says = g .large .says;
-      above = cells-above (length marks) cells (variable (g .large .large)) c (literal-most maxVariable (g .token) (g .large .large) (g .large .says)) (g .large .above);
-    };
-  }
+  large-marks ts g =
+      record { variable = g .variable; stands = g .stands; above = cells-above (length marks) cells (g .variable) c (stands-most (g .variable) ts (g .stands)) (g .above) }
 
   later-marks : ShortLater f p heads lits hints tape cells → ShortLater f p heads lits hints tape (length marks)
   later-marks x = record {
@@ -117,22 +106,7 @@ module _ (f p heads lits hints marks tape : List ℕ) (e : Enough f p heads lits
 
       large-never : LargeIn (length marks) (y .rest) → ⊥
       large-never g =
-          let stands : StandsIn (variable (g .large .large)) (y .rest) =
-          record {
-            front = g .front;
-            token = g .token;
-            rest = g .rest;
-            is = g .is;
-            sofar = g .sofar;
-            begins = g .reached;
-            id = g .large .id;
-            others = g .large .others;
-            here = g .large .large;
-            goes-on = g .large .is;
-            says = g .large .says;
-            is-variable = refl;
-          } in
-          omega (arith, e .in-marks (variable (g .large .large)) (inr (record { formula = x .formula; is = x .is; state = y .state; rest = y .rest; leads = y .leads; stands = stands })), g .large .above)
+          omega (arith, e .in-marks (g .variable) (inr (record { formula = x .formula; is = x .is; state = y .state; rest = y .rest; leads = y .leads; stands = g .stands })), g .above)
 
       hints-never : length hints ≤ y .lacks .codes → ⊥
       hints-never h = omega (arith, e .in-hints, codes-few, leads-fewer (start (x .formula)) (tokens p) (y .state) (y .rest) (y .leads), tokens-few p)
