@@ -1,29 +1,27 @@
 -- From the end of the run to the answer, and from the formula in the store to the formula that the bytes spell. Assumes nothing.
-use Prim.Native.Nat.{ℕ, _+_, _*_, _/_, _%_, _<_, _≤_}
+use Prim.Native.Nat.{ℕ, _+_, _*_, _/_, _%_, _≤_}
 use mathlib.Core.Path.{_≡_, refl, sym, ap, _∙_}
-use mathlib.Core.Logic.{_⊎_, inl, inr, ⊎-elim}
-use mathlib.Core.Bool.{true, false}
+use mathlib.Core.Logic.{inl, inr, ⊎-elim}
+use mathlib.Core.Bool.{false}
 use mathlib.Core.List.{List}
-use mathlib.Core.Option.{Option, none, some}
+use mathlib.Core.Option.{some}
 use native.Mathlib.Omega.{arith}
 use native.Mathlib.Nat.{mul-le-mul}
 use lib.ListN.{length, take}
 use Rattle.meaning.specs.Meaning.{Formula}
 use Rattle.rules.specs.Text.{tokens}
 use Rattle.rules.specs.Formula.{readFormula}
-use Rattle.rules.specs.Judging.{State}
 use Rattle.rules.specs.Answers.{answer, start}
 use Rattle.rules.proofs.Counting.{tokens-few}
 use Rattle.rules.proofs.Running.{checked-run, verdict-read, verdict-unread}
 use Rattle.clauses.specs.Counting.{Counts}
-use Rattle.clauses.specs.Store.{Holds}
 use Rattle.formula.specs.Body.{greatest}
 use Rattle.formula.specs.Reading.{IsStored, IsUnreadable, IsTooShort, Reads}
 use Rattle.formula.specs.declared.FormulaRead.{FormulaRead}
 use Rattle.formula.specs.declared.FormulaRead.the-variants.{Stored as IsRead, Unreadable as IsUnread, TooShort as IsShort}
-use Rattle.stepping.specs.Stepping.{refusalOf, stateAt, rate}
+use Rattle.stepping.specs.Stepping.{refusalOf, rate}
 use Rattle.stepping.specs.declared.Between.{Between}
-use Rattle.checker.specs.Promises.{said, Exact, NoMark, ShortAt, ShortLater, Short, timeBound, stepOf}
+use Rattle.checker.specs.Promises.{Exact, Short, timeBound, stepOf}
 use Rattle.checker.specs.Running.{stepsOf, EndedCase, allOf, RunsTo, proofTurns, runTurns}
 use Rattle.checker.specs.Answering.{answerBy, Cleared, Charged, HasMarks, Begun, AnswerCase, Answers, ChecksMarked}
 use Rattle.checker.specs.declared.Answer.{Answer}

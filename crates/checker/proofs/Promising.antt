@@ -1,15 +1,14 @@
 -- The promises of the front door, from what its parts come to. Assumes nothing.
-use Prim.Native.Nat.{ℕ, _+_, _*_, _%_, _<_, _≤_}
+use Prim.Native.Nat.{ℕ, _+_, _*_, _%_, _≤_}
 use mathlib.Core.Path.{_≡_, refl, sym, ap, _∙_}
-use mathlib.Core.Logic.{_⊎_, inl, inr, ⊎-elim}
+use mathlib.Core.Logic.{inl, inr, ⊎-elim}
 use mathlib.Core.List.{List}
-use mathlib.Core.Option.{none, some}
 use native.Mathlib.Omega.{arith}
 use lib.ListN.{length, take}
 use lib.Seq.{length-take-le}
 use Rattle.rules.specs.Limits.{maxVariable}
 use Rattle.rules.specs.Text.{Token, tokens}
-use Rattle.rules.specs.Answers.{verified, start, verdict, Refuted}
+use Rattle.rules.specs.Answers.{start}
 use Rattle.rules.proofs.Options.{some-inj}
 use Rattle.rules.specs.Judging.{State}
 use Rattle.rules.proofs.Counting.{tokens-few}
@@ -22,7 +21,6 @@ use Rattle.steps.proofs.Readings.{begins-fewer}
 use Rattle.checker.specs.Promises.{said, Exact, Means, timeBound, stepOf, Leads, here, then, headsFor, litsFor, hintsFor, tapeFor, marksFor, Enough, Room, NoMark, ShortAt, ShortLater, Short, FollowsLive}
 use Rattle.checker.specs.Answering.{Cells, ChecksMarked}
 use Rattle.checker.specs.declared.Answer.{Answer}
-use Rattle.checker.specs.declared.Answer.the-variants.{Verified, TooShort}
 use Rattle.checker.proofs.Storing.{within-clauses}
 use Rattle.checker.proofs.Runs.{short-same}
 

@@ -1,16 +1,14 @@
 -- The run over the steps of a proof: what is known between two of them, and what it is known to come to. Assumes nothing.
-use Prim.Native.Nat.{ℕ, suc, _+_, _-_, _*_, _^_, _<_, _≤_}
-use mathlib.Core.Path.{_≡_, refl, sym, ap, _∙_}
-use mathlib.Core.Logic.{_⊎_, inl, inr, ⊎-elim}
-use mathlib.Core.Bool.{Bool, true, false}
+use Prim.Native.Nat.{ℕ, _+_, _-_, _*_, _^_, _<_, _≤_}
+use mathlib.Core.Path.{_≡_, refl, _∙_}
+use mathlib.Core.Logic.{inl, inr, ⊎-elim}
+use mathlib.Core.Bool.{true, false}
 use mathlib.Core.List.{List}
-use mathlib.Core.Option.{some}
 use native.Mathlib.Omega.{arith}
 use native.Mathlib.Numerals.{add-one}
 use lib.ListN.{length, drop}
 use Rattle.rules.specs.Text.{Token, tokens}
 use Rattle.rules.specs.Judging.{State}
-use Rattle.rules.specs.Answers.{Ending, run}
 use Rattle.rules.proofs.Counting.{tokens-few}
 use Rattle.rules.proofs.Running.{step-shorter, run-end, run-unreadable, run-refused, run-verified, run-on}
 use Rattle.clauses.specs.Counting.{Counts}

@@ -1,21 +1,21 @@
 -- The formula in the store: the variables of its literals, and the state that the run starts from. Assumes nothing.
-use Prim.Native.Nat.{ℕ, zero, suc, _+_, _-_, _*_, _/_, _<_, _≤_, max}
+use Prim.Native.Nat.{ℕ, zero, suc, _+_, _-_, _/_, _<_, _≤_, max}
 use mathlib.Core.Path.{_≡_, refl, sym, ap, _∙_}
-use mathlib.Core.Logic.{_⊎_, inl, inr, ⊎-elim}
+use mathlib.Core.Logic.{inl, inr, ⊎-elim}
 use mathlib.Core.Bool.{Bool, true, false, not}
 use mathlib.Core.List.{List, [], _∷_, _++_, map}
 use native.Mathlib.Omega.{arith}
 use borrow.Author.Tests.{not-true, not-false}
-use lib.ListN.{length, getD, take, drop}
+use lib.ListN.{length, getD, take}
 use lib.Seq.{slice, getD-take, length-take-le, length-slice, getD-drop}
 use Rattle.meaning.specs.Meaning.{variable, Clause, Formula, Within, AllWithin}
-use Rattle.rules.specs.Judging.{Live, State}
+use Rattle.rules.specs.Judging.{Live}
 use Rattle.rules.specs.Answers.{numbered, start}
 use Rattle.clauses.specs.Codes.{literalOf}
-use Rattle.clauses.specs.Store.{startAt, clauseAt, liveOf, clausesOf, Store, Holds}
+use Rattle.clauses.specs.Store.{startAt, clauseAt, clausesOf, Holds}
 use Rattle.clauses.proofs.Literals.{variable-literal}
 use Rattle.clauses.proofs.Numbers.{cut}
-use Rattle.clauses.proofs.Entries.{clause-is, start-below}
+use Rattle.clauses.proofs.Entries.{clause-is}
 use Rattle.clauses.proofs.Plain.{holds-plain, holds-undeleted}
 use Rattle.assignment.specs.Sight.{In}
 use Rattle.deletion.specs.Deleting.{stateOf}
