@@ -1,29 +1,28 @@
 -- From the end of the run to the answer, and from the formula in the store to the formula that the bytes spell. Assumes nothing.
-use Prim.Native.Nat.{ℕ, _+_, _*_, _/_, _%_, _<_, _≤_}
+use Prim.Native.Nat.{ℕ, _+_, _*_, _/_, _%_, _≤_}
 use mathlib.Core.Path.{_≡_, refl, sym, ap, _∙_}
-use mathlib.Core.Logic.{_⊎_, inl, inr, ⊎-elim}
-use mathlib.Core.Bool.{true, false}
+use mathlib.Core.Logic.{inl, inr, ⊎-elim}
+use mathlib.Core.Bool.{false}
 use mathlib.Core.List.{List}
-use mathlib.Core.Option.{Option, none, some}
+use mathlib.Core.Option.{some}
 use native.Mathlib.Omega.{arith}
 use native.Mathlib.Nat.{mul-le-mul}
 use lib.ListN.{length, take}
 use Rattle.meaning.specs.Meaning.{Formula}
-use Rattle.rules.specs.Text.{Token, tokens}
+use Rattle.rules.specs.Text.{tokens}
 use Rattle.rules.specs.Formula.{readFormula}
-use Rattle.rules.specs.Judging.{State}
-use Rattle.rules.specs.Answers.{Ending, endsVerified, endsUnreadableStep, endsRefused, endsUnfinished, unreadableFormula, answer, run, numbered, start, checked, ending, verdict}
+use Rattle.rules.specs.Answers.{answer, start}
 use Rattle.rules.proofs.Counting.{tokens-few}
+use Rattle.rules.proofs.Running.{checked-run, verdict-read, verdict-unread}
 use Rattle.clauses.specs.Counting.{Counts}
-use Rattle.clauses.specs.Store.{Holds}
 use Rattle.formula.specs.Body.{greatest}
 use Rattle.formula.specs.Reading.{IsStored, IsUnreadable, IsTooShort, Reads}
 use Rattle.formula.specs.declared.FormulaRead.{FormulaRead}
 use Rattle.formula.specs.declared.FormulaRead.the-variants.{Stored as IsRead, Unreadable as IsUnread, TooShort as IsShort}
-use Rattle.stepping.specs.Stepping.{refusalOf, stateAt, rate}
+use Rattle.stepping.specs.Stepping.{refusalOf, rate}
 use Rattle.stepping.specs.declared.Between.{Between}
-use Rattle.checker.specs.Promises.{said, Exact, NoMark, ShortAt, ShortLater, Short, timeBound, stepOf}
-use Rattle.checker.specs.Running.{stepsOf, runFrom, EndedCase, allOf, RunsTo, proofTurns, runTurns}
+use Rattle.checker.specs.Promises.{Exact, Short, timeBound, stepOf}
+use Rattle.checker.specs.Running.{stepsOf, EndedCase, allOf, RunsTo, proofTurns, runTurns}
 use Rattle.checker.specs.Answering.{answerBy, Cleared, Charged, HasMarks, Begun, AnswerCase, Answers, ChecksMarked}
 use Rattle.checker.specs.declared.Answer.{Answer}
 use Rattle.checker.specs.declared.Answer.the-variants.{Verified, UnreadableFormula, UnreadableStep, Refused, Unfinished, TooShort}
@@ -50,10 +49,6 @@ step-same EndsTooShort = refl
 pub between-same : (n used last : ℕ) → last ≡ n
     → _≡_ {A = Between} (record { n = n; used = used; last = last; dead = 0 }) (record { n = n; used = used; last = n; dead = 0 })
 between-same n used last e = rw e
-
-checked-run : (F : Formula) (ts : List Token) → checked F ts ≡ runFrom 0 (start F) ts
-unfolding checked
-checked-run F ts = refl
 
 module _ (proof heads lits hints marks tape : List ℕ) (n used : ℕ) where
   -- Some variable has no mark.
@@ -97,14 +92,6 @@ module _ (proof heads lits hints marks tape : List ℕ) (n used : ℕ) where
         (stored-answers e (r .0) a x, stored-turns e ran (r .1 .0) (r .1 .1) a x before noted sum all z c d)
 
 -- The formula that the bytes spell
-
-verdict-read : (f p : List ℕ) (F : Formula) → readFormula f ≡ some F → verdict f p ≡ answer (checked F (tokens p))
-unfolding verdict ending
-verdict-read f p F e = rw (e, ending, verdict)
-
-verdict-unread : (f p : List ℕ) → readFormula f ≡ none → verdict f p ≡ unreadableFormula
-unfolding verdict ending
-verdict-unread f p e = rw (e, ending, verdict)
 
 -- What is charged before the proof.
 before-turns : (bytes used closed cleared read all : ℕ) → cleared ≤ 33_554_432 → Charged bytes used closed read → Counts cleared read all
@@ -159,7 +146,7 @@ module _ (f p heads lits hints marks tape : List ℕ) (r : FormulaRead) (heads�
             short =
                 ⊎-elim
                 (λ x. inl (rw ml at x))
-                (λ x. inr (short-same heads′ lits′ hints tape heads lits hints tape (length marks′) (length marks) (start (stored .formula)) (tokens p) (n + used + length (tokens p)) hl ll refl refl ml x))
+                (λ x. inr (short-same heads′ lits′ hints tape heads lits hints tape (length marks′) (length marks) (start (stored .formula)) (tokens p) (n + used + length (tokens p)) hl ll refl refl (λ ts g. rw ml at g) x))
                 y;
           })
 

@@ -1,33 +1,28 @@
 -- The promises of the front door, from what its parts come to. Assumes nothing.
-use Prim.Native.Nat.{ℕ, _+_, _*_, _%_, _<_, _≤_}
+use Prim.Native.Nat.{ℕ, _+_, _*_, _%_, _≤_}
 use mathlib.Core.Path.{_≡_, refl, sym, ap, _∙_}
-use mathlib.Core.Logic.{_⊎_, inl, inr, ⊎-elim}
+use mathlib.Core.Logic.{inl, inr, ⊎-elim}
 use mathlib.Core.List.{List}
-use mathlib.Core.Option.{none, some}
 use native.Mathlib.Omega.{arith}
-use borrow.Author.Tests.{leb-true}
-use lib.Dec.{leb}
 use lib.ListN.{length, take}
 use lib.Seq.{length-take-le}
-use Rattle.meaning.specs.Meaning.{Literal, pos, neg, variable, Formula}
 use Rattle.rules.specs.Limits.{maxVariable}
-use Rattle.rules.specs.Text.{Token, nought, plus, minus, letterD, other, tokens, literal}
-use Rattle.rules.specs.Answers.{verified, start, verdict, Refuted}
-use Rattle.rules.proofs.Options.{none-some, some-inj, only-some}
+use Rattle.rules.specs.Text.{Token, tokens}
+use Rattle.rules.specs.Answers.{start}
+use Rattle.rules.proofs.Options.{some-inj}
 use Rattle.rules.specs.Judging.{State}
 use Rattle.rules.proofs.Counting.{tokens-few}
-use Rattle.rules.proofs.Limited.{read-within}
+use Rattle.rules.proofs.Limited.{literal-most, read-within}
 use Rattle.rules.proofs.Running.{step-shorter}
 use Rattle.rules.proofs.Soundness.{verdict-sound}
 use Rattle.clauses.proofs.Numbers.{cut}
-use Rattle.steps.specs.Reading.{LargeIn}
+use Rattle.steps.specs.Reading.{StandsIn, LargeIn}
 use Rattle.steps.proofs.Readings.{begins-fewer}
-use Rattle.stepping.specs.Stepping.{Lacks}
-use Rattle.checker.specs.Promises.{said, Exact, Means, timeBound, stepOf, StandsIn, Leads, here, then, headsFor, litsFor, hintsFor, tapeFor, marksFor, Enough, Room, NoMark, ShortAt, ShortLater, Short, FollowsLive}
+use Rattle.checker.specs.Promises.{said, Exact, Means, timeBound, stepOf, Leads, here, then, headsFor, litsFor, hintsFor, tapeFor, marksFor, Enough, Room, NoMark, ShortAt, ShortLater, Short, FollowsLive}
 use Rattle.checker.specs.Answering.{Cells, ChecksMarked}
 use Rattle.checker.specs.declared.Answer.{Answer}
-use Rattle.checker.specs.declared.Answer.the-variants.{Verified, TooShort}
 use Rattle.checker.proofs.Storing.{within-clauses}
+use Rattle.checker.proofs.Runs.{short-same}
 
 -- unsolvable
 
@@ -40,14 +35,9 @@ exact-means f p a x k e =
 
 -- live
 
--- A literal's variable is within the limit of variables.
-literal-most : (m : ℕ) (t : Token) (l : Literal) → literal m t ≡ some l → variable l ≤ m
-unfolding literal
-literal-most m nought l e = none-some e
-literal-most m (plus v) l e = let r = only-some (leb v m) (pos v) l e in rw (← (r .same)) (leb-true v m (r .passed))
-literal-most m (minus v) l e = let r = only-some (leb v m) (neg v) l e in rw (← (r .same)) (leb-true v m (r .passed))
-literal-most m letterD l e = none-some e
-literal-most m other l e = none-some e
+-- A variable that stands in a step is within the limit.
+stands-most : (v : ℕ) (ts : List Token) → StandsIn v ts → v ≤ maxVariable
+stands-most v ts s = rw (← (s .next .is-variable)) (literal-most maxVariable (s .token) (s .next .new) (s .next .says))
 
 -- Where a variable that there may be has no cell, there are too few marks.
 cells-above : (marks cells v : ℕ) → Cells marks cells → v ≤ maxVariable → cells ≤ 2 * v + 1 → marks ≤ 2 * v + 1
@@ -55,34 +45,9 @@ cells-above marks cells v c w h =
     ⊎-elim (λ few. omega arith) (λ many. absurd (omega (arith, c .enough (2 * v + 2) (omega arith) many (omega arith)))) (cut marks (2 * v + 2))
 
 module _ (f p heads lits hints marks tape : List ℕ) (cells : ℕ) (c : Cells (length marks) cells) where
-  lacks-marks : (n used : ℕ) (ts : List Token) → Lacks heads lits hints tape cells n used ts → Lacks heads lits hints tape (length marks) n used ts
-  lacks-marks n used ts x = record {
-    codes = x .codes;
-    step = x .step;
-    short =
-        ⊎-elim
-        (λ a. inl a)
-        (λ y. ⊎-elim (λ a. inr (inl a)) (λ z. ⊎-elim (λ a. inr (inr (inl a))) (λ w. ⊎-elim (λ a. inr (inr (inr (inl a)))) (λ g. inr (inr (inr (inr (large g))))) w) z) y)
-        (x .short);
-  }
-    where
-      large : LargeIn cells ts → LargeIn (length marks) ts
-      large g = record {
-        front = g .front;
-        token = g .token;
-        rest = g .rest;
-        is = g .is;
-        sofar = g .sofar;
-        reached = g .reached;
-        large = record {
-          id = g .large .id;
-          others = g .large .others;
-          large = g .large .large;
-          is = g .large .is;
-          says = g .large .says;
-          above = cells-above (length marks) cells (variable (g .large .large)) c (literal-most maxVariable (g .token) (g .large .large) (g .large .says)) (g .large .above);
-        };
-      }
+  large-marks : (ts : List Token) → LargeIn cells ts → LargeIn (length marks) ts
+  large-marks ts g =
+      record { variable = g .variable; stands = g .stands; above = cells-above (length marks) cells (g .variable) c (stands-most (g .variable) ts (g .stands)) (g .above) }
 
   later-marks : ShortLater f p heads lits hints tape cells → ShortLater f p heads lits hints tape (length marks)
   later-marks x = record {
@@ -100,18 +65,7 @@ module _ (f p heads lits hints marks tape : List ℕ) (cells : ℕ) (c : Cells (
           occurs = y .occurs;
           above = cells-above (length marks) cells (y .variable) c (omega (arith, within-clauses (x .formula .vars) (y .variable) (x .formula .clauses) (w .all-within) (y .occurs), w .few-variables)) (y .above);
         }))
-        (λ y.
-        inr
-        (record {
-          state = y .state;
-          rest = y .rest;
-          leads = y .leads;
-          n = y .n;
-          used = y .used;
-          twice = y .twice;
-          few = y .few;
-          lacks = lacks-marks (y .n) (y .used) (y .rest) (y .lacks);
-        }))
+        (λ y. inr (short-same heads lits hints tape heads lits hints tape cells (length marks) (start (x .formula)) (tokens p) (x .all) refl refl refl refl large-marks y))
         (x .short);
   }
 
@@ -150,22 +104,7 @@ module _ (f p heads lits hints marks tape : List ℕ) (e : Enough f p heads lits
 
       large-never : LargeIn (length marks) (y .rest) → ⊥
       large-never g =
-          let stands : StandsIn (variable (g .large .large)) (y .rest) =
-          record {
-            front = g .front;
-            token = g .token;
-            rest = g .rest;
-            is = g .is;
-            sofar = g .sofar;
-            begins = g .reached;
-            id = g .large .id;
-            others = g .large .others;
-            here = g .large .large;
-            goes-on = g .large .is;
-            says = g .large .says;
-            is-variable = refl;
-          } in
-          omega (arith, e .in-marks (variable (g .large .large)) (inr (record { formula = x .formula; is = x .is; state = y .state; rest = y .rest; leads = y .leads; stands = stands })), g .large .above)
+          omega (arith, e .in-marks (g .variable) (inr (record { formula = x .formula; is = x .is; state = y .state; rest = y .rest; leads = y .leads; stands = g .stands })), g .above)
 
       hints-never : length hints ≤ y .lacks .codes → ⊥
       hints-never h = omega (arith, e .in-hints, codes-few, leads-fewer (start (x .formula)) (tokens p) (y .state) (y .rest) (y .leads), tokens-few p)

@@ -1,22 +1,21 @@
 -- The run over the steps of a proof: what is known between two of them, and what it is known to come to. Assumes nothing.
-use Prim.Native.Nat.{ℕ, suc, _+_, _-_, _*_, _^_, _<_, _≤_}
-use mathlib.Core.Path.{_≡_, refl, sym, ap, _∙_}
-use mathlib.Core.Logic.{_⊎_, inl, inr, ⊎-elim}
-use mathlib.Core.Bool.{Bool, true, false}
+use Prim.Native.Nat.{ℕ, _+_, _-_, _*_, _^_, _<_, _≤_}
+use mathlib.Core.Path.{_≡_, refl, _∙_}
+use mathlib.Core.Logic.{inl, inr, ⊎-elim}
+use mathlib.Core.Bool.{true, false}
 use mathlib.Core.List.{List}
-use mathlib.Core.Option.{some}
 use native.Mathlib.Omega.{arith}
 use native.Mathlib.Numerals.{add-one}
 use lib.ListN.{length, drop}
 use Rattle.rules.specs.Text.{Token, tokens}
 use Rattle.rules.specs.Judging.{State}
-use Rattle.rules.specs.Answers.{Ending, run}
 use Rattle.rules.proofs.Counting.{tokens-few}
 use Rattle.rules.proofs.Running.{step-shorter, run-end, run-unreadable, run-refused, run-verified, run-on}
 use Rattle.clauses.specs.Counting.{Counts}
 use Rattle.clauses.specs.Store.{liveOf}
 use Rattle.deletion.specs.Deleting.{weight}
 use Rattle.deletion.proofs.Waste.{weight-dead}
+use Rattle.steps.specs.Reading.{LargeIn}
 use Rattle.stepping.specs.Stepping.{refusalOf, stateAt, Keeps, rate, Lacks, LastTurns, TakeCase, TakesStep}
 use Rattle.stepping.specs.declared.Between.{Between}
 use Rattle.stepping.specs.declared.Outcome.{Outcome}
@@ -66,10 +65,11 @@ running-start proof b heads lits hints guess marks tape k = record {
   tape-long = refl;
 }
 
+-- Only the lengths of the parts matter, and whether a literal has a mark.
 lacks-same : (heads lits hints tape heads₀ lits₀ hints₀ tape₀ : List ℕ) (cells cells₀ n used : ℕ) (ts : List Token)
-    → length heads ≡ length heads₀ → length lits ≡ length lits₀ → length hints ≡ length hints₀ → length tape ≡ length tape₀ → cells ≡ cells₀
+    → length heads ≡ length heads₀ → length lits ≡ length lits₀ → length hints ≡ length hints₀ → length tape ≡ length tape₀ → (LargeIn cells ts → LargeIn cells₀ ts)
     → Lacks heads lits hints tape cells n used ts → Lacks heads₀ lits₀ hints₀ tape₀ cells₀ n used ts
-lacks-same heads lits hints tape heads₀ lits₀ hints₀ tape₀ cells cells₀ n used ts a b c d e x = record {
+lacks-same heads lits hints tape heads₀ lits₀ hints₀ tape₀ cells cells₀ n used ts a b c d large x = record {
   codes = x .codes;
   step = x .step;
   short =
@@ -78,7 +78,7 @@ lacks-same heads lits hints tape heads₀ lits₀ hints₀ tape₀ cells cells�
       (λ y.
       ⊎-elim
       (λ h. inr (inl (omega (arith, b))))
-      (λ z. ⊎-elim (λ h. inr (inr (inl (omega (arith, c))))) (λ w. ⊎-elim (λ h. inr (inr (inr (inl (omega (arith, d)))))) (λ g. inr (inr (inr (inr (rw e at g))))) w) z)
+      (λ z. ⊎-elim (λ h. inr (inr (inl (omega (arith, c))))) (λ w. ⊎-elim (λ h. inr (inr (inr (inl (omega (arith, d)))))) (λ g. inr (inr (inr (inr (large g))))) w) z)
       y)
       (x .short);
 }
@@ -125,7 +125,7 @@ module _ (proof : List ℕ) (b₀ : Between) (heads₀ lits₀ hints₀ guess₀
           (r .lits-long)
           (r .hints-long)
           (r .tape-long)
-          (r .marks-long)
+          (λ g. rw (r .marks-long) at g)
           (y .0);
     }
     ends Unreadable y s = rw (add-one done) (r .same ∙ run-unreadable done (stateAt heads lits b) (tokens (drop at proof)) (y .0 .is) (y .0 .left))
@@ -198,11 +198,10 @@ module _ (proof : List ℕ) (b₀ : Between) (heads₀ lits₀ hints₀ guess₀
     pub running-less : stopsAt o ≡ false → length (tokens (drop next proof)) < length (tokens (drop at proof))
     running-less s = fewer o (t .case) s
 
--- Only the lengths of the parts matter.
 pub short-same : (heads lits hints tape heads₀ lits₀ hints₀ tape₀ : List ℕ) (cells cells₀ : ℕ) (s : State) (ts : List Token) (all : ℕ)
-    → length heads ≡ length heads₀ → length lits ≡ length lits₀ → length hints ≡ length hints₀ → length tape ≡ length tape₀ → cells ≡ cells₀
+    → length heads ≡ length heads₀ → length lits ≡ length lits₀ → length hints ≡ length hints₀ → length tape ≡ length tape₀ → ((rest : List Token) → LargeIn cells rest → LargeIn cells₀ rest)
     → ShortAt heads lits hints tape cells s ts all → ShortAt heads₀ lits₀ hints₀ tape₀ cells₀ s ts all
-short-same heads lits hints tape heads₀ lits₀ hints₀ tape₀ cells cells₀ s ts all a b c d e x = record {
+short-same heads lits hints tape heads₀ lits₀ hints₀ tape₀ cells cells₀ s ts all a b c d large x = record {
   state = x .state;
   rest = x .rest;
   leads = x .leads;
@@ -210,5 +209,5 @@ short-same heads lits hints tape heads₀ lits₀ hints₀ tape₀ cells cells�
   used = x .used;
   twice = x .twice;
   few = x .few;
-  lacks = lacks-same heads lits hints tape heads₀ lits₀ hints₀ tape₀ cells cells₀ (x .n) (x .used) (x .rest) a b c d e (x .lacks);
+  lacks = lacks-same heads lits hints tape heads₀ lits₀ hints₀ tape₀ cells cells₀ (x .n) (x .used) (x .rest) a b c d (large (x .rest)) (x .lacks);
 }

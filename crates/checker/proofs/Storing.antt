@@ -1,22 +1,23 @@
 -- The formula in the store: the variables of its literals, and the state that the run starts from. Assumes nothing.
-use Prim.Native.Nat.{ℕ, zero, suc, _+_, _-_, _*_, _/_, _<_, _≤_, max}
+use Prim.Native.Nat.{ℕ, zero, suc, _+_, _-_, _/_, _<_, _≤_, max}
 use mathlib.Core.Path.{_≡_, refl, sym, ap, _∙_}
-use mathlib.Core.Logic.{_⊎_, inl, inr, ⊎-elim}
+use mathlib.Core.Logic.{inl, inr, ⊎-elim}
 use mathlib.Core.Bool.{Bool, true, false, not}
 use mathlib.Core.List.{List, [], _∷_, _++_, map}
 use native.Mathlib.Omega.{arith}
 use borrow.Author.Tests.{not-true, not-false}
-use lib.ListN.{length, getD, take, drop}
+use lib.ListN.{length, getD, take}
 use lib.Seq.{slice, getD-take, length-take-le, length-slice, getD-drop}
 use Rattle.meaning.specs.Meaning.{variable, Clause, Formula, Within, AllWithin}
-use Rattle.rules.specs.Judging.{Live, State}
+use Rattle.rules.specs.Judging.{Live}
 use Rattle.rules.specs.Answers.{numbered, start}
 use Rattle.clauses.specs.Codes.{literalOf}
-use Rattle.clauses.specs.Store.{startAt, clauseAt, liveOf, clausesOf, Store, Holds}
+use Rattle.clauses.specs.Store.{startAt, clauseAt, clausesOf, Holds}
 use Rattle.clauses.proofs.Literals.{variable-literal}
 use Rattle.clauses.proofs.Numbers.{cut}
-use Rattle.clauses.proofs.Entries.{clause-is, start-below}
+use Rattle.clauses.proofs.Entries.{clause-is}
 use Rattle.clauses.proofs.Plain.{holds-plain, holds-undeleted}
+use Rattle.assignment.specs.Sight.{In}
 use Rattle.deletion.specs.Deleting.{stateOf}
 use Rattle.deletion.proofs.Leavings.{none-dead}
 use Rattle.formula.specs.Body.{greatest}
@@ -66,12 +67,7 @@ in-clauses heads lits (suc n) b o fits i h =
         (in-clause (slice (startAt heads n) (startAt heads (suc n)) lits) j (omega (arith, long)))
 
 -- The greatest number of a list stands in it.
-record Stands (xs : List ℕ) (x : ℕ) : Type 0 where
-  pub place : ℕ
-  pub inside : place < length xs
-  pub is : getD xs place 0 ≡ x
-
-greatest-stands : (xs : List ℕ) → 1 ≤ length xs → Stands xs (greatest xs)
+greatest-stands : (xs : List ℕ) → 1 ≤ length xs → In xs (greatest xs)
 unfolding greatest
 greatest-stands [] h = absurd (omega arith)
 greatest-stands (x ∷ []) h = record { place = 0; inside = omega arith; is = omega arith }
@@ -98,7 +94,7 @@ no-mark heads lits n used top cells e h F held is-n =
     long : length (take used lits) ≡ used
     long = length-take-le used lits (held .store .fits)
 
-    s : Stands (take used lits) (greatest (take used lits))
+    s : In (take used lits) (greatest (take used lits))
     s = greatest-stands (take used lits) (rw long (h .case .0))
 
     inside : s .place < used
@@ -111,9 +107,6 @@ no-mark heads lits n used top cells e h F held is-n =
 
 -- The start of the run.
 module _ (heads lits marks : List ℕ) (n used top : ℕ) (g : Begun heads lits marks n used top) where
-  first : Between
-  first = record { n = n; used = used; last = n; dead = 0 }
-
   known : HasMarks (length marks) used top true → (i : ℕ) → i < used → getD lits i 0 < length marks
   known h i l =
       ⊎-elim

@@ -2,19 +2,18 @@
 use Prim.Native.Nat.{ℕ, _+_, _*_, _/_, _<_, _≤_}
 use mathlib.Core.Path.{_≡_}
 use mathlib.Core.Logic.{_⊎_}
-use mathlib.Core.List.{List, [], _∷_, _++_}
+use mathlib.Core.List.{List, [], _∷_}
 use mathlib.Core.Option.{Option, none, some}
 use lib.ListN.{length}
-use Rattle.meaning.specs.Meaning.{Literal, variable, Clause, Formula}
-use Rattle.rules.specs.Limits.{maxVariable}
-use Rattle.rules.specs.Text.{Token, tokens, literal}
+use Rattle.meaning.specs.Meaning.{variable, Clause, Formula}
+use Rattle.rules.specs.Text.{Token, tokens}
 use Rattle.rules.specs.Formula.{readFormula}
 use Rattle.rules.specs.Steps.{Step, readStep}
 use Rattle.rules.specs.Judging.{State, judge, goesOn}
 use Rattle.rules.specs.Answers.{verified, unreadableFormula, unreadableStep, refusedStep, unfinished, start, verdict, Refuted}
 use Rattle.rules.specs.Answers.{Answer as Verdict}
 use Rattle.deletion.specs.Deleting.{weight}
-use Rattle.steps.specs.Partials.{Partial, atStart, inLiterals, Advance, goesOn as more, advance, reach}
+use Rattle.steps.specs.Reading.{StandsIn}
 use Rattle.stepping.specs.Stepping.{Lacks}
 use Rattle.checker.specs.declared.Answer.{Answer}
 use Rattle.checker.specs.declared.Answer.the-variants.{Verified, UnreadableFormula, UnreadableStep, Refused, Unfinished, TooShort}
@@ -65,28 +64,12 @@ abbrev pub InClauses : ℕ → List Clause → Type 0
 InClauses v [] = ⊥
 InClauses v (c ∷ cs) = InClause v c ⊎ InClauses v cs
 
--- v stands as a literal in the step that the tokens begin with, as far as that can be read: the token behind `front`, which is
--- the beginning of a step, is one more literal of it.
-pub record StandsIn (v : ℕ) (ts : List Token) : Type 0 where
-  pub front : List Token
-  pub token : Token
-  pub rest : List Token
-  pub is : ts ≡ front ++ (token ∷ rest)
-  pub sofar : Partial
-  pub begins : reach atStart front ≡ some sofar
-  pub id : ℕ
-  pub others : Clause
-  pub here : Literal
-  pub goes-on : advance sofar token ≡ more (inLiterals id (others ++ (here ∷ [])))
-  pub says : literal maxVariable token ≡ some here
-  pub is-variable : variable here ≡ v
-
 -- Steps that are read and allowed lead from one state and the tokens there to another.
 pub data Leads (s : State) (ts : List Token) : State → List Token → Type 0 where
   here : Leads s ts s ts
   then : {s₁ s₂ : State} {ts₁ : List Token} (r : Step × List Token) → Leads s ts s₁ ts₁ → readStep ts₁ ≡ some r → judge s₁ (r .0) ≡ goesOn s₂ → Leads s ts s₂ (r .1)
 
--- v occurs in the formula; v occurs in a step that is come to.
+-- v occurs in the formula; v stands as a literal in a step that is come to, as far as that can be read (steps' Reading).
 pub record InFormula (f : List ℕ) (v : ℕ) : Type 0 where
   pub formula : Formula
   pub is : readFormula f ≡ some formula

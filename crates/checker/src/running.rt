@@ -4,7 +4,6 @@ use stepping::Outcome;
 use stepping::Refusal;
 ghost use mathlib.Core.Path.{_≡_};
 ghost use Prim.Native.Nat.{_+_, _<_, _≤_, _^_};
-ghost use lib.ListN.{length};
 ghost use Rattle.stepping.specs.Stepping.{Keeps};
 ghost use Rattle.checker.specs.Running.{stopsAt, endedBy, onwardOf, RunsTo, runTurns, stepsOf};
 

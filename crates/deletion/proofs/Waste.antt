@@ -1,13 +1,13 @@
 -- What the clauses of a store take, one for each and one for each literal, is what the live ones take and what the deleted ones
 -- take. So a caller knows how much of a store is waste. Assumes nothing.
 use Prim.Native.Nat.{ℕ, zero, suc, _+_, _-_, _/_, _%_, _<_, _≤_}
-use mathlib.Core.Path.{_≡_, refl, sym, ap, _∙_}
+use mathlib.Core.Path.{_≡_, refl, ap, _∙_}
 use mathlib.Core.List.{List, [], _∷_, _++_}
 use native.Mathlib.Omega.{arith}
 use native.Mathlib.Numerals.{add-one}
 use borrow.Author.Tests.{eqb-true, eqb-false}
 use lib.Dec.{eqb}
-use lib.ListN.{length, take, drop, length-drop, length-map}
+use lib.ListN.{length, take, length-drop, length-map}
 use lib.Seq.{slice, length-take-le}
 use Rattle.meaning.specs.Meaning.{Clause}
 use Rattle.meaning.proofs.Truth.{bool-cases}

@@ -1,7 +1,7 @@
 -- From answers to numbers. Assumes nothing.
 use Prim.Native.Nat.{ℕ, _≤_}
-use mathlib.Core.Path.{_≡_, refl, sym, ap, _∙_}
-use mathlib.Core.Logic.{_⊎_, inl, inr, ⊎-elim}
+use mathlib.Core.Path.{_≡_, refl, ap}
+use mathlib.Core.Logic.{inl, inr, ⊎-elim}
 use mathlib.Core.List.{List}
 use mathlib.Core.Option.{some}
 use native.Mathlib.Omega.{arith}
@@ -45,7 +45,7 @@ exact-numbers f p a x = ⊎-elim (λ short. inl (ap numberOf short)) (λ says. i
 pub check-numbers : (f p heads lits hints marks tape : List ℕ) (a : Answer) (turns : ℕ)
     → Exact f p a × (Means f a × (Room f p heads lits hints marks tape a × (FollowsLive f p heads lits hints marks tape a × ((turns ≤ timeBound (length f) (length p)) × (stepOf a ≤ turns)))))
     → (r step : ℕ) → r ≡ numberOf a → step ≡ stepOf a
-    → ExactNumbers f p r step × (MeansNumber f r × (RoomNumber f p heads lits hints marks tape r × (LiveNumber f p heads lits hints marks tape r × (turns ≤ timeBound (length f) (length p)))))
+    → ExactNumbers f p r step × (MeansNumber f r × (RoomNumber f p heads lits hints marks tape r × (LiveNumber f p heads lits hints marks tape r × ((turns ≤ timeBound (length f) (length p)) × (step ≤ turns)))))
 check-numbers f p heads lits hints marks tape a turns x r step e q =
     rw (e, q)
-    (exact-numbers f p a (x .0), (means-number f a (x .1 .0), ((λ n z. x .1 .1 .0 n (only-short a z)), ((λ z. x .1 .1 .1 .0 (only-short a z)), x .1 .1 .1 .1 .0))))
+    (exact-numbers f p a (x .0), (means-number f a (x .1 .0), ((λ n z. x .1 .1 .0 n (only-short a z)), ((λ z. x .1 .1 .1 .0 (only-short a z)), x .1 .1 .1 .1))))

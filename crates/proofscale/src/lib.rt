@@ -56,6 +56,7 @@ pub extern "C" fn proofscale_check(
     ensures room { λ r. ⌜ RoomNumber (now (formula .entry)) (now (proof .entry)) (now (heads .entry)) (now (lits .entry)) (now (hints .entry)) (now (marks .entry)) (now (tape .entry)) r ⌝ }
     ensures live { λ r. ⌜ LiveNumber (now (formula .entry)) (now (proof .entry)) (now (heads .entry)) (now (lits .entry)) (now (hints .entry)) (now (marks .entry)) (now (tape .entry)) r ⌝ }
     ensures time { λ _. ⌜ now (turns .exit) ≤ timeBound (length (now (formula .entry))) (length (now (proof .entry))) ⌝ }
+    ensures steps { λ _. ⌜ now (step .exit) ≤ now (turns .exit) ⌝ }
 {
     let r = checker::check(formula, proof, heads, lits, hints, guess, marks, tape);
     let a = r.answer;

@@ -39,13 +39,25 @@ header-limited line r e =
     let q : (b .value, c .value) ≡ r = some-inj (c .goes-on) in
     rw (← q) (record { variables = count-limited maxVariable (token (before 32 (a .value))) (b .value) (b .is-value); clauses = count-limited maxClauses (token (behind 32 (a .value))) (c .value) (c .is-value) })
 
-pub literal-within : (m : ℕ) (t : Token) (l : Literal) → Proper t → literal m t ≡ some l → (1 ≤ variable l) × (variable l ≤ m)
+-- The variable of a token that is a literal.
+literal-least : (m : ℕ) (t : Token) (l : Literal) → Proper t → literal m t ≡ some l → 1 ≤ variable l
 unfolding literal
-literal-within m nought l p e = none-some e
-literal-within m (plus v) l p e = let r = only-some (leb v m) (pos v) l e in rw (← (r .same)) (p, leb-true v m (r .passed))
-literal-within m (minus v) l p e = let r = only-some (leb v m) (neg v) l e in rw (← (r .same)) (p, leb-true v m (r .passed))
-literal-within m letterD l p e = none-some e
-literal-within m other l p e = none-some e
+literal-least m nought l p e = none-some e
+literal-least m (plus v) l p e = let r = only-some (leb v m) (pos v) l e in rw (← (r .same)) p
+literal-least m (minus v) l p e = let r = only-some (leb v m) (neg v) l e in rw (← (r .same)) p
+literal-least m letterD l p e = none-some e
+literal-least m other l p e = none-some e
+
+pub literal-most : (m : ℕ) (t : Token) (l : Literal) → literal m t ≡ some l → variable l ≤ m
+unfolding literal
+literal-most m nought l e = none-some e
+literal-most m (plus v) l e = let r = only-some (leb v m) (pos v) l e in rw (← (r .same)) (leb-true v m (r .passed))
+literal-most m (minus v) l e = let r = only-some (leb v m) (neg v) l e in rw (← (r .same)) (leb-true v m (r .passed))
+literal-most m letterD l e = none-some e
+literal-most m other l e = none-some e
+
+pub literal-within : (m : ℕ) (t : Token) (l : Literal) → Proper t → literal m t ≡ some l → (1 ≤ variable l) × (variable l ≤ m)
+literal-within m t l p e = (literal-least m t l p e, literal-most m t l e)
 
 -- A clause that is read, and the tokens behind it.
 pub record ClauseWithin (m : ℕ) (r : Clause × List Token) : Type 0 where

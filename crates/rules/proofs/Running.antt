@@ -10,11 +10,11 @@ use Rattle.meaning.specs.Meaning.{Formula}
 use Rattle.meaning.proofs.Truth.{bool-cases}
 use Rattle.rules.specs.Tools.{_>>=_}
 use Rattle.rules.specs.Limits.{maxVariable}
-use Rattle.rules.specs.Text.{Token, isNought, isLetterD, literal}
-use Rattle.rules.specs.Formula.{items}
+use Rattle.rules.specs.Text.{Token, isNought, isLetterD, tokens, literal}
+use Rattle.rules.specs.Formula.{items, readFormula}
 use Rattle.rules.specs.Steps.{Step, add, delete, clauseId, hint, stepBody, readStep}
 use Rattle.rules.specs.Judging.{Ground, State, Judged, refused, addsEmpty, goesOn, judge}
-use Rattle.rules.specs.Answers.{endsVerified, endsUnreadableStep, endsRefused, endsUnfinished, run, start}
+use Rattle.rules.specs.Answers.{endsVerified, endsUnreadableStep, endsRefused, endsUnfinished, unreadableFormula, answer, run, start, checked, ending, verdict}
 use Rattle.rules.proofs.Options.{none-some, bound}
 use Rattle.rules.proofs.Ids.{Orderly, OrderlyJudged, start-orderly, judge-orderly}
 
@@ -123,6 +123,20 @@ unfolding run
 run-on k s s′ [] r e j = none-some e
 run-on k s s′ (t ∷ ts) r e j =
     rw (e, run, j) (run-fuel (suc (length ts)) (suc (length (r .1))) (suc k) s′ (r .1) (omega (arith, step-shorter (t ∷ ts) r e)) (omega arith))
+
+-- The verdict, by the run.
+
+pub checked-run : (F : Formula) (ts : List Token) → checked F ts ≡ run (suc (length ts)) 0 (start F) ts
+unfolding checked
+checked-run F ts = refl
+
+pub verdict-read : (f p : List ℕ) (F : Formula) → readFormula f ≡ some F → verdict f p ≡ answer (checked F (tokens p))
+unfolding verdict ending
+verdict-read f p F e = rw (e, ending, verdict)
+
+pub verdict-unread : (f p : List ℕ) → readFormula f ≡ none → verdict f p ≡ unreadableFormula
+unfolding verdict ending
+verdict-unread f p e = rw (e, ending, verdict)
 
 -- The states that a run from a formula comes to: the start, and what a step goes on to.
 pub data Reached (F : Formula) : State → Type 0 where

@@ -1,5 +1,5 @@
 -- Judging an addition, and what an accepted one makes of the store. Assumes nothing.
-use Prim.Native.Nat.{ℕ, _+_, _-_, _*_, _^_, _<_, _≤_}
+use Prim.Native.Nat.{ℕ, _+_, _-_, _*_, _<_, _≤_}
 use mathlib.Core.Path.{_≡_, refl, sym, ap, _∙_}
 use mathlib.Core.Logic.{inl, inr, ⊎-elim}
 use mathlib.Core.List.{List, [], _∷_, _++_, map}
@@ -9,19 +9,19 @@ use lib.ListN.{length, getD, take, drop, set, length-map, length-drop}
 use lib.Seq.{slice, getD-take, length-take-le, take-take}
 use Rattle.meaning.specs.Meaning.{Clause}
 use Rattle.rules.specs.Steps.{Hint, add}
-use Rattle.rules.specs.Judging.{Live, Ground, State, refused, addsEmpty, goesOn, additionFault, added, judge}
+use Rattle.rules.specs.Judging.{Live, Ground, State, refused, addsEmpty, goesOn, additionFault, judge}
 use Rattle.rules.proofs.Ids.{accepted-fresh}
 use Rattle.clauses.specs.Codes.{literalOf, hintOf}
-use Rattle.clauses.specs.Store.{liveOf, Store, Holds}
+use Rattle.clauses.specs.Store.{liveOf, Holds}
 use Rattle.clauses.proofs.Holding.{holds-front, holds-append}
 use Rattle.clauses.proofs.Numbers.{cut}
-use Rattle.deletion.specs.Deleting.{stateOf, deadOf}
+use Rattle.deletion.specs.Deleting.{stateOf}
 use Rattle.deletion.proofs.Leavings.{dead-append}
 use Rattle.addition.specs.Verdicts.{SaysCase, groundOf}
 use Rattle.addition.specs.Addition.{Addable as Judgeable, clauseIn, allTurns, Judges}
 use Rattle.addition.specs.declared.Verdict.{Verdict}
 use Rattle.addition.specs.declared.Verdict.the-variants.{Accepted as IsAccepted, Refused as IsRefused, TooShort as IsTooShort}
-use Rattle.stepping.specs.Stepping.{stateAt, addition, Keeps, Accepts, Accepted, AcceptByCase, AcceptsBy, Addable, Goes, AddCase, Adds}
+use Rattle.stepping.specs.Stepping.{stateAt, addition, Accepts, AcceptByCase, AcceptsBy, Addable, Goes, AddCase, Adds}
 use Rattle.stepping.specs.declared.Between.{Between}
 use Rattle.stepping.specs.declared.Outcome.{Outcome}
 use Rattle.stepping.specs.declared.Outcome.the-variants.{On, Verified, Refused, TooShort, Unreadable, Nothing}

@@ -3,16 +3,15 @@ use Prim.Native.Nat.{ℕ, _+_, _*_, _/_, _^_, _<_, _≤_}
 use mathlib.Core.Path.{_≡_, refl, sym, ap, _∙_}
 use mathlib.Core.List.{List, map}
 use native.Mathlib.Omega.{arith}
-use lib.ListN.{length, getD, take}
+use lib.ListN.{length, take}
 use lib.Seq.{length-take-le}
-use Rattle.rules.specs.Steps.{delete}
-use Rattle.rules.specs.Judging.{Live, State, refused, goesOn, deletionNotLive, judgeDeletion, judge}
+use Rattle.rules.specs.Judging.{Live, goesOn, judgeDeletion, judge}
 use Rattle.clauses.specs.Codes.{half}
 use Rattle.clauses.specs.Counting.{Counts}
-use Rattle.clauses.specs.Store.{liveOf, Store, Holds}
+use Rattle.clauses.specs.Store.{liveOf, Holds}
 use Rattle.clauses.specs.Moving.{AllMoved}
 use Rattle.clauses.specs.declared.Compacted.{Compacted}
-use Rattle.deletion.specs.Deleting.{deadOf, stateOf, Headed, AllGone, OneMissing, Deletes as DeletesAll}
+use Rattle.deletion.specs.Deleting.{stateOf, Headed, AllGone, OneMissing, Deletes as DeletesAll}
 use Rattle.deletion.specs.declared.Deleted.{Deleted}
 use Rattle.deletion.specs.declared.Deleted.the-variants.{Done, NotLive}
 use Rattle.deletion.proofs.Leavings.{none-dead, dead-below}

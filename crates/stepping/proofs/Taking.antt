@@ -1,19 +1,17 @@
 -- Taking one step: what was read is judged, and what that comes to for the run. Assumes nothing.
 use Prim.Native.Nat.{ℕ, _+_, _-_, _*_, _^_, _<_, _≤_}
 use mathlib.Core.Path.{_≡_, refl, sym, ap, _∙_}
-use mathlib.Core.Logic.{_⊎_, inl, inr, ⊎-elim}
-use mathlib.Core.List.{List, [], map}
-use mathlib.Core.Option.{none, some}
+use mathlib.Core.Logic.{inl, inr, ⊎-elim}
+use mathlib.Core.List.{List, map}
+use mathlib.Core.Option.{some}
 use native.Mathlib.Omega.{arith}
 use native.Mathlib.Nat.{add-mul, mul-comm, mul-le-mul}
 use lib.ListN.{length, getD, take, drop, length-drop}
-use lib.Seq.{slice}
 use Rattle.rules.specs.Text.{tokens}
-use Rattle.rules.specs.Steps.{Step, add, delete, readStep}
-use Rattle.rules.specs.Judging.{Live, State, refused, addsEmpty, goesOn, judge}
+use Rattle.rules.specs.Steps.{Step, add, delete}
+use Rattle.rules.specs.Judging.{Live, State, judge}
 use Rattle.rules.proofs.Counting.{tokens-few}
 use Rattle.clauses.specs.Codes.{literalOf, hintOf, half}
-use Rattle.clauses.specs.Counting.{Reaches}
 use Rattle.clauses.specs.Store.{liveOf, Holds}
 use Rattle.clauses.proofs.Holding.{holds-front}
 use Rattle.deletion.specs.Deleting.{stateOf}
@@ -23,8 +21,8 @@ use Rattle.steps.specs.Reading.{StepAdded, StepDeleted, StepNone, StepStopped, 
 use Rattle.steps.specs.declared.StepRead.{StepRead}
 use Rattle.steps.specs.declared.StepRead.the-variants.{Addition, Deletion, Nothing as NoStep, Unreadable as BadStep, TooShort as ShortStep}
 use Rattle.addition.specs.Verdicts.{costs}
-use Rattle.addition.specs.Addition.{clauseIn, allTurns}
-use Rattle.stepping.specs.Stepping.{refusalOf, stateAt, addition, deletion, Tight, Keeps, Spent, Addable, Adds, AddShort, Deletes, Lessens, StepIs, rate, TakenOn, Lacks, LastTurns, TakeCase, TakesStep}
+use Rattle.addition.specs.Addition.{allTurns}
+use Rattle.stepping.specs.Stepping.{stateAt, addition, deletion, Tight, Keeps, Spent, Addable, Adds, AddShort, Deletes, StepIs, rate, Lacks, LastTurns, TakeCase, TakesStep}
 use Rattle.stepping.specs.declared.Between.{Between}
 use Rattle.stepping.specs.declared.Outcome.{Outcome}
 use Rattle.stepping.specs.declared.Outcome.the-variants.{On, Verified, Refused, TooShort, Unreadable, Nothing}

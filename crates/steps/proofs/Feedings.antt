@@ -1,6 +1,6 @@
 -- What one token more makes of a step that is read in part, by the functions of src/feeding.rt: the codes that they store
 -- stand for what `advance` says. Assumes nothing.
-use Prim.Native.Nat.{ℕ, _+_, _*_, _-_, _≤_, _<_}
+use Prim.Native.Nat.{ℕ, _+_, _*_, _/_, _-_, _≤_, _<_}
 use mathlib.Core.Path.{_≡_, refl, sym, ap, subst, _∙_}
 use mathlib.Core.Logic.{_⊎_, inl, inr, ⊎-elim}
 use mathlib.Core.Bool.{Bool, true, false}
@@ -145,12 +145,16 @@ module _ (cells : ℕ) (p : Partial) (t : Token) (n end : ℕ) (lits₀ : List �
   unfolding literalOr
   literal-large x say h =
       record {
-        id = n;
-        others = map literalOf (a .new);
-        large = literalOf x;
-        is = a .leads ∙ item-on (literal maxVariable) literalOf _ _ t x say;
-        says = say .1;
-        above = omega (arith, variable-literal x);
+        large = x / 2;
+        next = record {
+          id = n;
+          others = map literalOf (a .new);
+          new = literalOf x;
+          is = a .leads ∙ item-on (literal maxVariable) literalOf _ _ t x say;
+          says = say .1;
+          is-variable = variable-literal x;
+        };
+        above = omega arith;
       }
 
 -- What a token says, from the item that was made of it.

@@ -259,13 +259,17 @@ module _ (cells : ℕ) (s : List ℕ) (at used : ℕ) (lits₀ hints₀ lits hin
                 (λ w. inr (⊎-elim
                 (λ h. inl (omega (arith, hints-same)))
                 (λ g. inr (record {
-                  front = r .front;
-                  token = next .tok;
-                  rest = tokens (drop n s);
-                  is = r .split ∙ ap (λ (l : List Token). r .front ++ l) (next .is);
-                  sofar = r .sofar;
-                  reached = r .reached;
-                  large = g;
+                  variable = g .large;
+                  stands = record {
+                    front = r .front;
+                    token = next .tok;
+                    rest = tokens (drop n s);
+                    is = r .split ∙ ap (λ (l : List Token). r .front ++ l) (next .is);
+                    sofar = r .sofar;
+                    reached = r .reached;
+                    next = g .next;
+                  };
+                  above = g .above;
                 }))
                 w))
                 (f .0 (midway next));

@@ -184,14 +184,20 @@ pub record Deletes (p : Partial) (t : Token) (many : ℕ) (lits₀ lits hints₀
   pub noted : Placed hints₀ 0 told hints many
   pub same : lits ≡ lits₀
 
--- The token is a literal of the step whose code, or that of its opposite, is not below `cells`.
-pub record TooLarge (cells : ℕ) (p : Partial) (t : Token) : Type 0 where
+-- The token is one more literal of the step, and v is its variable.
+pub record NextLiteral (p : Partial) (t : Token) (v : ℕ) : Type 0 where
   pub id : ℕ
   pub others : Clause
-  pub large : Lit
-  pub is : advance p t ≡ goesOn (inLiterals id (others ++ (large ∷ [])))
-  pub says : literal maxVariable t ≡ some large
-  pub above : cells ≤ 2 * variable large + 1
+  pub new : Lit
+  pub is : advance p t ≡ goesOn (inLiterals id (others ++ (new ∷ [])))
+  pub says : literal maxVariable t ≡ some new
+  pub is-variable : variable new ≡ v
+
+-- The token is a literal of the step whose code, or that of its opposite, is not below `cells`.
+pub record TooLarge (cells : ℕ) (p : Partial) (t : Token) : Type 0 where
+  pub large : ℕ
+  pub next : NextLiteral p t large
+  pub above : cells ≤ 2 * large + 1
 
 -- A slice is full, or the token is too large.
 abbrev pub Short : ℕ → Partial → Token → ℕ → List ℕ → ℕ → List ℕ → Type 0

@@ -14,7 +14,7 @@ use Rattle.text.specs.declared.Token.the-variants.{Nothing}
 use Rattle.clauses.specs.Codes.{literalOf, hintOf, half}
 use Rattle.formula.specs.Body.{Placed, AllBelow}
 use Rattle.steps.specs.Partials.{Partial, atStart, reach}
-use Rattle.steps.specs.Feeding.{codes, phaseOf, IsId, Stands, TooLarge}
+use Rattle.steps.specs.Feeding.{phaseOf, IsId, Stands, NextLiteral}
 use Rattle.steps.specs.declared.feeding.Kind.the-variants.{Literals, Hints}
 use Rattle.steps.specs.declared.feeding.Phase.{Phase}
 use Rattle.steps.specs.declared.StepRead.{StepRead}
@@ -131,16 +131,22 @@ pub record StepBad (s : List ℕ) (at used : ℕ) (lits hints lits′ hints′ :
   pub left : 1 ≤ length (tokens (drop at s))
   pub stopped : StepStopped s at used lits hints lits′ hints′ stop end many
 
--- The step that the tokens begin with has a literal whose code, or that of its opposite, is not below `cells`: the token behind
--- `front` is one, where the tokens of `front` are the beginning of a step.
-pub record LargeIn (cells : ℕ) (ts : List Token) : Type 0 where
+-- v stands as a literal in the step that the tokens begin with, as far as that can be read: the token behind `front`, which is
+-- the beginning of a step, is one more literal of it.
+pub record StandsIn (v : ℕ) (ts : List Token) : Type 0 where
   pub front : List Token
   pub token : Token
   pub rest : List Token
   pub is : ts ≡ front ++ (token ∷ rest)
   pub sofar : Partial
   pub reached : reach atStart front ≡ some sofar
-  pub large : TooLarge cells sofar token
+  pub next : NextLiteral sofar token v
+
+-- The step that the tokens begin with has a literal whose code, or that of its opposite, is not below `cells`.
+pub record LargeIn (cells : ℕ) (ts : List Token) : Type 0 where
+  pub variable : ℕ
+  pub stands : StandsIn variable ts
+  pub above : cells ≤ 2 * variable + 1
 
 -- The token at `stop` did not fit: the place behind the last literal is the end of its slice, or that behind the last hint is, or
 -- the token is a literal too large for `cells`. `step-short` in proofs/ compares the slices with the tokens from `at` on.

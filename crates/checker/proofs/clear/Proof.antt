@@ -3,7 +3,6 @@ use Prim.Native.Nat.{_-_}
 use lib.ListN.{length}
 use native.Mathlib.Omega.{arith}
 use Rattle.checker.proofs.Clearing.{Clearing, clearing-start, clearing-on, clearing-end}
-use borrow.Author.Needs.{needs}
 use Rattle.checker.proofs.clear.Statement.{statement}
 use Rattle.checker.proofs.clear.Tie as tie
 
