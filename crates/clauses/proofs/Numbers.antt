@@ -1,9 +1,10 @@
 -- Laws of numbers that the proofs of this crate share. Assumes nothing.
-use Prim.Native.Nat.{ℕ, _%_, _<_, _≤_}
+use Prim.Native.Nat.{ℕ, _<_, _≤_}
 use mathlib.Core.Path.{_≡_}
 use mathlib.Core.Logic.{_⊎_, inl, inr}
-use native.Mathlib.Nat.{mod-lt}
+use native.Mathlib.Omega.{arith}
 use borrow.Author.Tests.{ltb-true, ltb-false}
+use lib.Bits.{bitAnd, and-le-r}
 use lib.Dec.{ltb}
 use Rattle.meaning.proofs.Truth.{bool-cases}
 
@@ -11,6 +12,6 @@ use Rattle.meaning.proofs.Truth.{bool-cases}
 pub cut : (a b : ℕ) → (a < b) ⊎ (b ≤ a)
 cut a b = bool-cases (ltb a b) (λ y. inl (ltb-true a b y)) (λ n. inr (ltb-false a b n))
 
--- A rest is below the divisor.
-pub rest-below : (r x n m : ℕ) → r ≡ x % n → n ≡ m → 0 < m → r < m
-rest-below r x n m e q h = rw (e, q) (mod-lt x h)
+-- A mask leaves no more than it has itself.
+pub mask-below : (r x m slots : ℕ) → r ≡ bitAnd x m → m < slots → r < slots
+mask-below r x m slots e h = omega (arith, e, h, and-le-r x m)

@@ -107,16 +107,39 @@ pub fn find(heads: &[u64], n: usize, id: u64) -> Found
     Found::Nowhere { turns: turns }
 }
 
-// Where the guess for `id` stands among so many.
+// The greatest number of the form 2^k - 1 that is below `slots`, or 0.
+fn mask(slots: usize) -> u64
+    requires { ⌜ 0 < slots ⌝ }
+    ensures { λ r. ⌜ r < slots ⌝ }
+{
+    let zeros = u64::leading_zeros(count(slots));
+    if 63 < zeros {
+        return 0;
+    }
+    let ones = (18446744073709551615 >> zeros) >> 1;
+    if ones < count(slots) {
+        return ones;
+    }
+    0
+}
+
+// Where the guess for `id` stands among so many. A mask takes the place of a division, which costs more than all the rest of
+// a look-up; so only a power of 2 of the slots is in use.
 fn slot(id: u64, slots: usize) -> usize
     requires { ⌜ 0 < slots ⌝ }
     ensures { λ r. ⌜ r < slots ⌝ }
 {
-    index(id % count(slots))
+    index(id & mask(slots))
 }
 
-// The guess for `id`; any place will do.
-fn guessed(guess: &[u32], id: u64) -> usize {
+// How far a clause lies below the place that it would have if no id were left out and nothing had been given back. (A number
+// that makes no sense does no harm: a guess is looked at before it is believed.)
+fn below(id: u64, place: usize) -> usize {
+    std::num::wrapping_sub_usize(std::num::wrapping_sub_usize(index(id), 1), place)
+}
+
+// How far the clause `id` is guessed to lie below that place.
+fn noted(guess: &[u32], id: u64) -> usize {
     if guess.len() == 0 {
         return 0;
     }
@@ -124,13 +147,17 @@ fn guessed(guess: &[u32], id: u64) -> usize {
     cell(guess[at])
 }
 
+// The guess for `id`; any place will do. A table of zeros is right until room is given back for the first time.
+pub fn guessed(guess: &[u32], id: u64) -> usize {
+    below(id, noted(guess, id))
+}
+
 // The place of the live clause `id` if the guess for it is right, else `n`. This is the first half of a `lookup`, of its own so that a
 // caller can make it ahead of time, and the memory where the clause's head stands is there once the rest is done.
-pub fn peek(heads: &[u64], n: usize, guess: &[u32], id: u64) -> usize
+pub fn peek(heads: &[u64], n: usize, place: usize, id: u64) -> usize
     requires { ⌜ (2 * n < length (now heads)) × (id < 2 ^ 60) ⌝ }
     ensures { λ r. ⌜ Peeked (now (heads .entry)) n id r ⌝ }
 {
-    let place = guessed(guess, id);
     if place < n {
         if heads[2 * place] == 2 * id {
             return place;
@@ -161,7 +188,7 @@ pub fn lookup(heads: &[u64], n: usize, guess: &[u32], id: u64) -> Found
     ensures place { λ r. ⌜ FoundIn (now (heads .entry)) n id r ⌝ }
     ensures turns { λ r. ⌜ AtMostHalvings n (turnsOf r) ⌝ }
 {
-    let place = peek(heads, n, guess, id);
+    let place = peek(heads, n, guessed(guess, id), id);
     lookup_at(heads, n, place, id)
 }
 
@@ -173,18 +200,24 @@ fn narrow(x: usize) -> u32
     x as u32
 }
 
-// The next guess for `id` is `place`, if there is room for a guess.
+// The next guess for `id` is `place`, if there is room for a guess. What is right already is not written again, so that memory
+// which the caller has not touched yet is not taken for it.
 pub fn note(guess: &mut [u32], id: u64, place: usize)
     ensures { λ _. ⌜ length (now (guess .exit)) ≡ length (now (guess .entry)) ⌝ }
 {
     if guess.len() == 0 {
         return;
     }
-    if 4294967295 < place {
+    let moved = below(id, place);
+    if 4294967295 < moved {
         return;
     }
     let at = slot(id, guess.len());
-    guess[at] = narrow(place);
+    let now = narrow(moved);
+    if guess[at] == now {
+        return;
+    }
+    guess[at] = now;
 }
 
 // The next guess for each of the first `n` clauses is its place.

@@ -3,8 +3,9 @@
 // The turns are counted: one for each hint that is looked at, one for each halving of the search for its clause, and one for
 // each literal of that clause. They are counted up to the greatest number, so that no slice can be too long.
 //
-// The place of a hint's clause is peeked at one hint ahead, before the clause of the hint in front of it is looked at. So the memory
-// where that head stands is fetched while there is something else to do, and is there when it is needed. A peek takes no turn.
+// The place of a hint's clause is guessed two hints ahead and peeked at one hint ahead, before the clause of the hint in front of
+// it is looked at. So the memory where the guess and the head stand is fetched while there is something else to do, and is there
+// when it is needed. Neither takes a turn.
 use assignment::Look;
 use clauses::Found;
 ghost use mathlib.Core.Path.{_≡_};
@@ -194,13 +195,28 @@ fn how_by(e: Effect, id: u64) -> How
     }
 }
 
-// The place of the clause of the `i`-th hint, as far as the guess for it is right. Behind the last hint there is nothing to peek at.
-fn peek_next(heads: &[u64], n: usize, guess: &[u32], hints: &[u32], i: usize, to: usize) -> usize
+// The place behind `i`, if that is before `to`.
+fn second(i: usize, to: usize) -> usize {
+    if i < to { i + 1 } else { to }
+}
+
+// Where the clause of the `i`-th hint probably is; any place will do, as there is none behind the last hint.
+fn guess_next(guess: &[u32], hints: &[u32], i: usize, to: usize) -> usize
+    requires { ⌜ to ≤ length (now hints) ⌝ }
+{
+    if i < to {
+        return clauses::guessed(guess, clauses::half(hints[i]));
+    }
+    0
+}
+
+// The place of the clause of the `i`-th hint, if it is the one guessed. Behind the last hint there is nothing to peek at.
+fn peek_next(heads: &[u64], n: usize, guessed: usize, hints: &[u32], i: usize, to: usize) -> usize
     requires { ⌜ (2 * n < length (now heads)) × (to ≤ length (now hints)) ⌝ }
     ensures { λ r. ⌜ Ahead (now (heads .entry)) n (now (hints .entry)) i to r ⌝ }
 {
     if i < to {
-        return clauses::peek(heads, n, guess, clauses::half(hints[i]));
+        return clauses::peek(heads, n, guessed, clauses::half(hints[i]));
     }
     n
 }
@@ -226,11 +242,21 @@ pub fn take_hints(
     let mut i = from;
     let mut at = t;
     let mut turns: u64 = 0;
-    let mut ahead = peek_next(heads, n, guess, hints, from, to);
+    let mut ahead = peek_next(
+        heads,
+        n,
+        guess_next(guess, hints, from, to),
+        hints,
+        from,
+        to,
+    );
+    let mut near = guess_next(guess, hints, second(from, to), to);
     while i < to {
         let id = clauses::half(hints[i]);
         let place = ahead;
-        ahead = peek_next(heads, n, guess, hints, i + 1, to);
+        let next = i + 1;
+        ahead = peek_next(heads, n, near, hints, next, to);
+        near = guess_next(guess, hints, second(next, to), to);
         let r = take_one(heads, n, place, lits, marks, tape, at, id);
         turns = clauses::plus(turns, r.turns);
         at = r.t;
@@ -243,7 +269,7 @@ pub fn take_hints(
                 turns: turns,
             };
         }
-        i += 1;
+        i = next;
     }
     Taken {
         how: How::Ended,

@@ -3,9 +3,6 @@ use borrow.Author.Needs.{needs}
 use Rattle.clauses.proofs.peek.Statement.{statement}
 use Rattle.clauses.proofs.peek.Tie as tie
 
-guessed-requires : tie.Need-guessed-requires
-guessed-requires c κs = search needs
-
 mul-if2 : tie.Need-mul-if2
 mul-if2 c = search needs
 
@@ -31,7 +28,6 @@ pub peek-spec : {M : Type 1} → statement M
 peek-spec =
     tie.close
     (tie.spec
-    guessed-requires
     mul-if2
     mul-if2-2
     shared-slice-read-if2

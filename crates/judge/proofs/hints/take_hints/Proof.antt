@@ -13,17 +13,25 @@ use Rattle.judge.proofs.hints.take_hints.Statement.{statement}
 use Rattle.judge.proofs.hints.take_hints.Tie as tie
 
 abbrev Inv-loop : tie.InvT-loop
-Inv-loop heads n guess lits marks₀ tape₀ t hints from to i₀ at₀ turns₀ ahead₀ marks tape i at turns ahead =
-    Taking (liveOf heads lits n) n hints from to marks₀ tape₀ t marks tape i at turns × Ahead heads n hints i to ahead
+Inv-loop heads n guess lits marks₀ tape₀ t hints from to i₀ at₀ turns₀ ahead₀ near₀ marks tape i at turns ahead near = Taking (liveOf heads lits n) n hints from to marks₀ tape₀ t marks tape i at turns × Ahead heads n hints i to ahead
 
 abbrev μ-loop : tie.MeasureT-loop
-μ-loop heads n guess lits marks₀ tape₀ t hints from to i₀ at₀ turns₀ ahead₀ marks tape i at turns ahead = to - i
+μ-loop heads n guess lits marks₀ tape₀ t hints from to i₀ at₀ turns₀ ahead₀ near₀ marks tape i at turns ahead near = to - i
+
+guess-next-requires : tie.Need-guess-next-requires Inv-loop μ-loop
+guess-next-requires c κs = c .before .before .before .before .before .before .pre .1 .1 .inside
 
 peek-next-requires : tie.Need-peek-next-requires Inv-loop μ-loop
-peek-next-requires c κs = (ready-room _ _ _ _ (c .before .before .before .before .before .before .pre .0), c .before .before .before .before .before .before .pre .1 .1 .inside)
+peek-next-requires c κs = (ready-room _ _ _ _ (c .before .before .before .before .before .before .before .pre .0), c .before .before .before .before .before .before .before .pre .1 .1 .inside)
+
+second-requires : tie.Need-second-requires Inv-loop μ-loop
+second-requires c κs = search needs
+
+guess-next-requires-2 : tie.Need-guess-next-requires-2 Inv-loop μ-loop
+guess-next-requires-2 c κs = c .before .before .before .before .before .before .before .before .before .pre .1 .1 .inside
 
 loop-holds : tie.Need-loop-holds Inv-loop μ-loop
-loop-holds c = (taking-start _ _ _ _ _ _ _ _ (c .before .before .before .before .before .before .before .pre .1 .0) (c .before .before .before .before .before .before .before .pre .1 .1), c .peek-next .ensures)
+loop-holds c = (taking-start _ _ _ _ _ _ _ _ (c .before .before .before .before .before .before .before .before .before .before .pre .1 .0) (c .before .before .before .before .before .before .before .before .before .before .pre .1 .1), c .before .before .peek-next .ensures)
 
 mul-half : tie.Need-mul-half Inv-loop μ-loop
 mul-half c = search needs
@@ -34,17 +42,20 @@ shared-slice-read-half c = search needs
 half-requires : tie.Need-half-requires Inv-loop μ-loop
 half-requires c κs = search needs
 
-add-peek-next : tie.Need-add-peek-next Inv-loop μ-loop
-add-peek-next c = search needs
+add-next : tie.Need-add-next Inv-loop μ-loop
+add-next c = omega (arith, c .before .before .loop-test .taken, c .before .before .before .before .before .before .before .before .before .before .before .before .before .before .fits .to)
 
 peek-next-requires-2 : tie.Need-peek-next-requires-2 Inv-loop μ-loop
-peek-next-requires-2 c κs = (ready-room _ _ _ _ (c .before .before .before .before .before .before .before .before .before .before .before .pre .0), c .before .before .before .before .before .before .before .before .before .before .before .pre .1 .1 .inside)
+peek-next-requires-2 c κs = (ready-room _ _ _ _ (c .before .before .before .before .before .before .before .before .before .before .before .before .before .before .pre .0), c .before .before .before .before .before .before .before .before .before .before .before .before .before .before .pre .1 .1 .inside)
+
+second-requires-2 : tie.Need-second-requires-2 Inv-loop μ-loop
+second-requires-2 c κs = search needs
+
+guess-next-requires-3 : tie.Need-guess-next-requires-3 Inv-loop μ-loop
+guess-next-requires-3 c κs = c .before .before .before .before .before .before .before .before .before .before .before .before .before .before .before .before .pre .1 .1 .inside
 
 take-one-requires : tie.Need-take-one-requires Inv-loop μ-loop
-take-one-requires c κs = (
-  taking-ready _ _ _ _ _ _ _ _ _ _ _ _ _ _ (c .before .before .before .before .before .before .loop .inv .0) (c .before .before .before .before .before .before .before .before .before .before .before .before .before .before .pre .0) (c .before .before .before .before .before .before .before .before .before .before .before .before .before .before .pre .1 .1),
-  (c .before .before .before .before .before .before .loop .inv .0 .laid .room, (c .before .before .before .half .ensures .1, ahead-here _ _ _ _ _ _ _ (c .before .before .before .half .ensures .0) (c .before .before .before .before .before .loop-test .taken) (c .before .before .before .before .before .before .loop .inv .1))),
-)
+take-one-requires c κs = (taking-ready _ _ _ _ _ _ _ _ _ _ _ _ _ _ (c .before .before .before .before .before .before .before .before .loop .inv .0) (c .before .before .before .before .before .before .before .before .before .before .before .before .before .before .before .before .before .before .before .pre .0) (c .before .before .before .before .before .before .before .before .before .before .before .before .before .before .before .before .before .before .before .pre .1 .1), (c .before .before .before .before .before .before .before .before .loop .inv .0 .laid .room, (c .before .before .before .before .before .half .ensures .1, ahead-here _ _ _ _ _ _ _ (c .before .before .before .before .before .half .ensures .0) (c .before .before .before .before .before .before .before .loop-test .taken) (c .before .before .before .before .before .before .before .before .loop .inv .1))))
 
 plus-requires : tie.Need-plus-requires Inv-loop μ-loop
 plus-requires c κs = search needs
@@ -56,25 +67,19 @@ how-by-requires : tie.Need-how-by-requires Inv-loop μ-loop
 how-by-requires c κs = search needs
 
 same-length : tie.Need-same-length Inv-loop μ-loop
-same-length c = c .before .before .before .before .before .before .before .before .take-one .ensures .laid .differ .long ∙ c .before .before .before .before .before .before .before .before .before .before .before .before .before .before .before .loop .inv .0 .laid .differ .long
+same-length c = c .before .before .before .before .before .before .before .before .take-one .ensures .laid .differ .long ∙ c .before .before .before .before .before .before .before .before .before .before .before .before .before .before .before .before .before .loop .inv .0 .laid .differ .long
 
 same-length-2 : tie.Need-same-length-2 Inv-loop μ-loop
-same-length-2 c = c .before .before .before .before .before .before .before .before .take-one .ensures .laid .long ∙ c .before .before .before .before .before .before .before .before .before .before .before .before .before .before .before .loop .inv .0 .laid .long
+same-length-2 c = c .before .before .before .before .before .before .before .before .take-one .ensures .laid .long ∙ c .before .before .before .before .before .before .before .before .before .before .before .before .before .before .before .before .before .loop .inv .0 .laid .long
 
 returns : tie.Need-returns Inv-loop μ-loop
-returns c = taking-stop _ _ _ _ _ _ _ _ _ _ _ _ _ _ (c .before .before .before .before .before .before .before .before .before .before .before .before .before .before .before .loop .inv .0) (c .before .before .before .before .before .before .before .before .before .before .before .before .before .before .before .before .before .before .before .before .before .before .before .pre .0) (c .before .before .before .before .before .before .before .before .before .before .before .before .before .before .before .before .before .before .before .before .before .before .before .pre .1 .1) (c .before .before .before .before .before .before .before .before .before .before .before .before .before .before .loop-test .taken) _ (c .before .before .before .before .before .before .before .before .before .before .before .before .half .ensures .0) _ _ _ _ _ (c .before .before .before .before .before .before .before .before .take-one .ensures) _ (c .before .before .before .plus .ensures) _ (c .before .before .stops .ensures) (c .before .if1 .taken) _ (c .how-by .ensures)
-
-add-i : tie.Need-add-i Inv-loop μ-loop
-add-i c = omega (arith, c .before .before .before .before .before .before .before .before .before .before .before .before .before .loop-test .taken, c .before .before .before .before .before .before .before .before .before .before .before .before .before .before .before .before .before .before .before .before .before .before .fits .to)
+returns c = taking-stop _ _ _ _ _ _ _ _ _ _ _ _ _ _ (c .before .before .before .before .before .before .before .before .before .before .before .before .before .before .before .before .before .loop .inv .0) (c .before .before .before .before .before .before .before .before .before .before .before .before .before .before .before .before .before .before .before .before .before .before .before .before .before .before .before .before .pre .0) (c .before .before .before .before .before .before .before .before .before .before .before .before .before .before .before .before .before .before .before .before .before .before .before .before .before .before .before .before .pre .1 .1) (c .before .before .before .before .before .before .before .before .before .before .before .before .before .before .before .before .loop-test .taken) _ (c .before .before .before .before .before .before .before .before .before .before .before .before .before .before .half .ensures .0) _ _ _ _ _ (c .before .before .before .before .before .before .before .before .take-one .ensures) _ (c .before .before .before .plus .ensures) _ (c .before .before .stops .ensures) (c .before .if1 .taken) _ (c .how-by .ensures)
 
 loop-less : tie.Need-loop-less Inv-loop μ-loop
-loop-less c = omega (arith, c .before .before .before .before .before .before .before .before .before .before .before .before .before .loop-test .taken)
+loop-less c = omega (arith, c .before .before .before .before .before .before .before .before .before .before .before .before .before .before .before .loop-test .taken)
 
 loop-again : tie.Need-loop-again Inv-loop μ-loop
-loop-again c = (
-  taking-on _ _ _ _ _ _ _ _ _ _ _ _ _ _ (c .before .before .before .before .before .before .before .before .before .before .before .before .before .before .loop .inv .0) (c .before .before .before .before .before .before .before .before .before .before .before .before .before .before .before .before .before .before .before .before .before .before .pre .0) (c .before .before .before .before .before .before .before .before .before .before .before .before .before .before .before .before .before .before .before .before .before .before .pre .1 .1) (c .before .before .before .before .before .before .before .before .before .before .before .before .before .loop-test .taken) _ (c .before .before .before .before .before .before .before .before .before .before .before .half .ensures .0) _ _ _ _ _ (c .before .before .before .before .before .before .before .take-one .ensures) _ (c .before .before .plus .ensures) _ (c .before .stops .ensures) (c .if1 .left),
-  c .before .before .before .before .before .before .before .before .before .before .peek-next2 .ensures,
-)
+loop-again c = (taking-on _ _ _ _ _ _ _ _ _ _ _ _ _ _ (c .before .before .before .before .before .before .before .before .before .before .before .before .before .before .before .before .loop .inv .0) (c .before .before .before .before .before .before .before .before .before .before .before .before .before .before .before .before .before .before .before .before .before .before .before .before .before .before .before .pre .0) (c .before .before .before .before .before .before .before .before .before .before .before .before .before .before .before .before .before .before .before .before .before .before .before .before .before .before .before .pre .1 .1) (c .before .before .before .before .before .before .before .before .before .before .before .before .before .before .before .loop-test .taken) _ (c .before .before .before .before .before .before .before .before .before .before .before .before .before .half .ensures .0) _ _ _ _ _ (c .before .before .before .before .before .before .before .take-one .ensures) _ (c .before .before .plus .ensures) _ (c .before .stops .ensures) (c .if1 .left), c .before .before .before .before .before .before .before .before .before .before .before .before .peek-next2 .ensures)
 
 same-length-3 : tie.Need-same-length-3 Inv-loop μ-loop
 same-length-3 c = c .before .loop .inv .0 .laid .differ .long
@@ -83,7 +88,7 @@ same-length-4 : tie.Need-same-length-4 Inv-loop μ-loop
 same-length-4 c = c .before .loop .inv .0 .laid .long
 
 returns-2 : tie.Need-returns-2 Inv-loop μ-loop
-returns-2 c = taking-end _ _ _ _ _ _ _ _ _ _ _ _ _ _ (c .before .loop .inv .0) (c .before .before .before .before .before .before .before .before .before .pre .0) (c .before .before .before .before .before .before .before .before .before .pre .1 .1) (c .loop-test .left)
+returns-2 c = taking-end _ _ _ _ _ _ _ _ _ _ _ _ _ _ (c .before .loop .inv .0) (c .before .before .before .before .before .before .before .before .before .before .before .before .pre .0) (c .before .before .before .before .before .before .before .before .before .before .before .before .pre .1 .1) (c .loop-test .left)
 
 pub take-hints-spec : {M : Type 1} → statement M
 take-hints-spec =
@@ -91,13 +96,18 @@ take-hints-spec =
     (tie.spec
     Inv-loop
     μ-loop
+    guess-next-requires
     peek-next-requires
+    second-requires
+    guess-next-requires-2
     loop-holds
     mul-half
     shared-slice-read-half
     half-requires
-    add-peek-next
+    add-next
     peek-next-requires-2
+    second-requires-2
+    guess-next-requires-3
     take-one-requires
     plus-requires
     stops-requires
@@ -105,7 +115,6 @@ take-hints-spec =
     same-length
     same-length-2
     returns
-    add-i
     loop-less
     loop-again
     same-length-3
