@@ -3,7 +3,6 @@
 //! What was read is what is checked and what is hashed; the file is not looked at again, so it does not matter if somebody
 //! changes it meanwhile. Nothing is decided here of what the bytes say.
 
-use crate::memory;
 use crate::status::{Failure, CANNOT_OPEN, IO_FAILS};
 use crate::words;
 use std::ffi::{OsStr, OsString};
@@ -40,7 +39,6 @@ fn all_of(mut from: impl Read, name: &OsStr, length: u64) -> Result<Input, Failu
     let mut bytes = Vec::new();
     // One byte more lets the reading notice the end without growing. Where there is no such memory, it grows as it goes.
     let _ = bytes.try_reserve_exact(usize::try_from(length).unwrap_or(0).saturating_add(1));
-    memory::prefer_large_pages(&mut bytes);
     match from.read_to_end(&mut bytes) {
         Ok(_) => Ok(Input { name: name.to_os_string(), bytes }),
         Err(e) => Err(unread(name, bytes.len(), &e)),

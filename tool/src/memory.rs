@@ -1,10 +1,8 @@
-//! How much memory is free: for the machine by /proc/meminfo, and for the control group that the tool runs in; and a word to
-//! the system on how to hand memory out.
+//! How much memory is free: for the machine by /proc/meminfo, and for the control group that the tool runs in.
 //!
 //! The number is an estimate of the moment. It keeps the tool from asking for more than there is; it is no promise that
 //! nobody else takes the memory meanwhile. Where nothing can be read, as outside of Linux, nothing is known.
 
-use std::ffi::{c_int, c_void};
 use std::fs;
 use std::path::{Path, PathBuf};
 
@@ -69,29 +67,6 @@ fn left_in_group(folder: &Path) -> Option<u64> {
     Some(limit.saturating_sub(used.saturating_sub(cached.unwrap_or(0))))
 }
 
-extern "C" {
-    fn madvise(start: *mut c_void, length: usize, advice: c_int) -> c_int;
-}
-
-/// Linux's MADV_HUGEPAGE.
-const LARGE_PAGES: c_int = 14;
-
-/// What the start and the length of advice have to be multiples of, at most.
-const PAGE: usize = 1 << 16;
-
-/// Asks the system to hand out the memory that was reserved for `bytes`, and is not in use yet, in large pages: a file of some
-/// gigabytes is read faster into them. It is only advice. Where the system does not take it, nothing changes.
-pub fn prefer_large_pages(bytes: &mut Vec<u8>) {
-    let spare = bytes.spare_capacity_mut();
-    let skip = spare.as_ptr().align_offset(PAGE).min(spare.len());
-    let whole = (spare.len() - skip) / PAGE * PAGE;
-    if cfg!(target_os = "linux") && whole > 0 {
-        // Safety: the range lies within memory that belongs to `bytes` and holds nothing yet, and this advice changes neither
-        // what memory holds nor who may use it.
-        unsafe { madvise(spare[skip..].as_mut_ptr().cast(), whole, LARGE_PAGES) };
-    }
-}
-
 /// The most memory that this process has had at a time, in bytes, if the system says so.
 pub fn peak() -> Option<u64> {
     field_of_meminfo(&fs::read_to_string("/proc/self/status").ok()?, "VmHWM")
@@ -142,18 +117,6 @@ mod tests {
         let old = group("old", &[("memory.limit_in_bytes", "1000\n"), ("memory.usage_in_bytes", "1400\n")]);
         assert_eq!(left_in_group(&old), Some(0));
         [new, open, old].iter().for_each(|folder| fs::remove_dir_all(folder).expect("the folder can be removed"));
-    }
-
-    #[test]
-    fn advice_on_pages_changes_nothing() {
-        for capacity in [0, 1, PAGE - 1, 5 * PAGE, 4 << 20] {
-            let mut bytes = Vec::with_capacity(capacity);
-            bytes.extend_from_slice(&[7; 3]);
-            prefer_large_pages(&mut bytes);
-            assert_eq!(bytes, [7; 3]);
-            bytes.resize(capacity, 1);
-            assert!(bytes.iter().skip(3).all(|&b| b == 1));
-        }
     }
 
     #[test]
