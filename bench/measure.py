@@ -1,7 +1,10 @@
 """Measures: measure.py FOLDER TOOL RUNS. Runs Proofscale and lrat-check in turn on each input, and writes FOLDER/runs.json: of each
 run the wall seconds, from the start of the process to its end, and the peak of its memory.
 
-The files are read once before, so that they are in the system's cache for both."""
+The files are read once before, so that they are in the system's cache for all.
+
+With ACL2_LRAT set to a command that takes a formula and a proof, as the `run.sh` of ACL2's books in projects/sat/lrat, that one is
+measured, too."""
 
 import json
 import os
@@ -21,6 +24,8 @@ def expect(checker, row, status, log):
         said = text.read()
     if checker == "proofscale":
         right = status == (0 if row["ends"] else 4)
+    elif checker == "ACL2":
+        right = ("s VERIFIED" in said.splitlines()) == row["ends"]
     else:
         right = "failed" not in said and "ERROR" not in said and ("c VERIFIED" in said.splitlines()) == row["ends"]
     if not right:
@@ -38,6 +43,8 @@ def main(folder, tool, runs):
         "proofscale": lambda f, p: [os.path.abspath(tool), "check", "--quiet", f, p],
         "lrat-check": lambda f, p: [f"{folder}/bin/lrat-check", f, p],
     }
+    if os.environ.get("ACL2_LRAT"):
+        checkers["ACL2"] = lambda f, p: [os.environ["ACL2_LRAT"], f, p]
     with open(f"{folder}/inputs/list.json", encoding="ascii") as file:
         rows = json.load(file)
     log = f"{folder}/run.log"

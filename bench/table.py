@@ -11,7 +11,7 @@ import sys
 
 HEAD = (
     "| input | size | formula MB | proof MB | Proofscale s | lrat-check s | ratio | ns a byte, growth | lrat-check's | "
-    "Proofscale peak MB | less the files | lrat-check peak MB |\n|---|---" + "|---:" * 10 + "|"
+    "Proofscale peak MB | less the files | lrat-check peak MB |"
 )
 
 
@@ -40,6 +40,8 @@ def line(row, small, same):
     size = "1" if row["size"] == 1 else f"1/{row['size']}"
     cells = [row["input"], size, f"{formula:.2f}", f"{proof:.1f}", f"{ours:.3f}", f"{theirs:.3f}", f"{ours / theirs:.2f}"]
     cells += [growth("proofscale"), growth("lrat-check"), f"{our_peak:.0f}", f"{our_peak - both:.0f}", f"{their_peak:.0f}"]
+    if "ACL2" in row["runs"]:
+        cells += [f"{least(row, 'ACL2')[0]:.3f}", f"{least(row, 'ACL2')[1]:.0f}"]
     return "| " + " | ".join(cells) + " |"
 
 
@@ -65,7 +67,9 @@ def table(folder):
     facts = f"Machine: {machine()}. Date: {when}. Commit: {head_commit()}. Command: `bench/run`; {runs} runs of each.\n\n"
     lengths = {name: {row["bytes"][0] for row in rows if row["input"] == name} for name in small}
     lines = [line(row, small[row["input"]], len(lengths[row["input"]]) == 1) for row in rows]
-    return facts + "\n".join([HEAD] + lines) + "\n"
+    head = HEAD + (" ACL2 s | ACL2 peak MB |" if "ACL2" in rows[0]["runs"] else "")
+    rule = "|---|---" + "|---:" * (head.count("|") - 3) + "|"
+    return facts + "\n".join([head, rule] + lines) + "\n"
 
 
 def main(folder, document=None):
