@@ -40,7 +40,8 @@ extern "C" {
  *   hints   (p + 2) / 2      a number for each hint, or id to delete, of one step
  *   tape    f + p + 2        a number for each literal of one step and of its clauses, and for each of its hints
  *   marks   2 v + 2          a byte for each literal
- *   guess   any, also 0      where clauses probably are; one for each clause that is alive makes looking up quick
+ *   guess   any, also 0      where clauses probably are; one for each clause that is alive makes looking up quick,
+ *                            and of the length the greatest power of 2 within it is used
  * What the parts hold before does not matter, and what they hold after is not promised to mean anything. */
 uint64_t proofscale_check(const uint8_t *formula, size_t formula_length,
                           const uint8_t *proof, size_t proof_length,

@@ -123,8 +123,8 @@ fn mask(slots: usize) -> u64
     0
 }
 
-// Where the guess for `id` stands among so many. A mask takes the place of a division, which costs more than all the rest of
-// a look-up; so only a power of 2 of the slots is in use.
+// Where the guess for `id` stands among so many. By a mask there is no division in a look-up; so only a power of 2 of the slots
+// is in use.
 fn slot(id: u64, slots: usize) -> usize
     requires { ⌜ 0 < slots ⌝ }
     ensures { λ r. ⌜ r < slots ⌝ }
@@ -147,7 +147,8 @@ fn noted(guess: &[u32], id: u64) -> usize {
     cell(guess[at])
 }
 
-// The guess for `id`; any place will do. A table of zeros is right until room is given back for the first time.
+// The guess for `id`; any place will do. A table of zeros is right as long as no id is left out and no room was
+// given back.
 pub fn guessed(guess: &[u32], id: u64) -> usize {
     below(id, noted(guess, id))
 }

@@ -18,7 +18,8 @@ pub enum Item {
     Wrong,
 }
 
-fn narrow(x: u64) -> u32
+// A code, as the slices hold it.
+pub fn narrow(x: u64) -> u32
     requires { ⌜ x < 2 ^ 32 ⌝ }
     ensures { λ r. ⌜ r ≡ x ⌝ }
 {

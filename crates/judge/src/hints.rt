@@ -195,8 +195,8 @@ fn how_by(e: Effect, id: u64) -> How
     }
 }
 
-// The place behind `i`, if that is before `to`.
-fn second(i: usize, to: usize) -> usize {
+// The place behind `i`, but none behind `to`.
+fn behind(i: usize, to: usize) -> usize {
     if i < to { i + 1 } else { to }
 }
 
@@ -250,13 +250,13 @@ pub fn take_hints(
         from,
         to,
     );
-    let mut near = guess_next(guess, hints, second(from, to), to);
+    let mut near = guess_next(guess, hints, behind(from, to), to);
     while i < to {
         let id = clauses::half(hints[i]);
         let place = ahead;
         let next = i + 1;
         ahead = peek_next(heads, n, near, hints, next, to);
-        near = guess_next(guess, hints, second(next, to), to);
+        near = guess_next(guess, hints, behind(next, to), to);
         let r = take_one(heads, n, place, lits, marks, tape, at, id);
         turns = clauses::plus(turns, r.turns);
         at = r.t;

@@ -1,6 +1,6 @@
 -- Short numbers taken one after the other: each is a token that `feed` would have taken in the same way, as a literal or as a
 -- hint. Assumes nothing.
-use Prim.Native.Nat.{ℕ, zero, suc, _+_, _*_, _/_, _%_, _≤_, _<_}
+use Prim.Native.Nat.{ℕ, _+_, _*_, _/_, _%_, _≤_, _<_}
 use mathlib.Core.Path.{_≡_, refl, sym, ap, subst, _∙_}
 use mathlib.Core.Logic.{⊎-elim}
 use mathlib.Core.List.{List}
@@ -20,6 +20,7 @@ use Rattle.steps.specs.declared.feeding.Kind.the-variants.{Literals, Hin
 use Rattle.steps.specs.declared.feeding.Phase.{Phase}
 use Rattle.steps.specs.declared.feeding.Fed.the-variants.{More}
 use Rattle.steps.specs.declared.feeding.Kept.the-variants.{Stored}
+use Rattle.steps.proofs.Coding.{positive}
 use Rattle.steps.proofs.Feedings.{feeds-literal, feeds-hint}
 use Rattle.steps.proofs.Readings.{scanned-within, reading-on}
 
@@ -35,10 +36,6 @@ short-taken s i code bytes m h l =
     (λ e. record { token = Plus (h .size); scan = e .1; is = rw (itemOf, le-leb (h .size) m (omega (arith, e .0, l))) (ap Lit (sym (e .0))) })
     (λ e. record { token = Minus (h .size); scan = e .1; is = rw (itemOf, le-leb (h .size) m (omega (arith, e .0, l))) (ap Lit (sym (e .0))) })
     (h .case)
-
-positive : (n : ℕ) → (n ≡ 0 → ⊥) → 1 ≤ n
-positive zero f = absurd (f refl)
-positive (suc n) f = omega arith
 
 pub along-start : (s : List ℕ) (from first limit : ℕ) (slots : List ℕ) → from ≤ length s → Along s from first limit slots slots from first
 along-start s from first limit slots h =

@@ -83,14 +83,14 @@ isLetter Nothing = false
 pub letter-no : (t u : Found) → t ≡ u → isLetter u ≡ false → Letter t false
 letter-no t u e f = record { case = λ q. clash (ap isLetter (sym e ∙ q)) f }
 
+pub positive : (n : ℕ) → (n ≡ 0 → ⊥) → 1 ≤ n
+positive zero f = absurd (f refl)
+positive (suc n) f = omega arith
+
 -- The start and the body
 
 pub start-on : (t : Found) (end n : ℕ) (next : Phase) → n ≡ idWithin maxId t → (n ≡ 0 → ⊥) → next ≡ phaseOf Body n end 0 → FedStart t end (More next)
 start-on t end n next e f q = record { case = (rw (← e) (positive n f), q ∙ ap (λ (m : ℕ). phaseOf Body m end 0) e) }
-  where
-    positive : (n : ℕ) → (n ≡ 0 → ⊥) → 1 ≤ n
-    positive zero f = absurd (f refl)
-    positive (suc n) f = omega arith
 
 module _ (n end : ℕ) (t : Found) (cells : ℕ) (lits lits′ : List ℕ) (r : Fed) (b : Bool) (l : Letter t b) where
   pub body-letter : b ≡ true → r ≡ More (phaseOf Ids n end 0) → lits′ ≡ lits → FedBody n end t cells lits lits′ r

@@ -8,13 +8,14 @@
 //
 // The turns of the two loops can be told from what is returned: one for each token taken (exactly, behind a whole step; up to
 // two tokens more than there are codes, where it stopped), one more where it stopped or nothing was left, and the bytes passed
-// for the leaves below. A short number has no loop below it, and the look that finds none takes no more than the byte behind
-// the token before it is charged for.
+// for the leaves below. The look that ends `along` moves nothing on and is no turn; there is at most one for each token that is
+// fed.
 pub mod feeding;
 
 use feeding::Fed;
 use feeding::Kind;
 use feeding::Phase;
+use formula::body;
 use text::Token;
 ghost use mathlib.Core.Path.{_≡_};
 ghost use Prim.Native.Nat.{_<_, _≤_, _^_};
@@ -96,14 +97,6 @@ fn least(x: u64, y: u64) -> u64
     if x < y { x } else { y }
 }
 
-// A code, as the slices hold it.
-fn narrow(x: u64) -> u32
-    requires { ⌜ x < 2 ^ 32 ⌝ }
-    ensures { λ r. ⌜ r ≡ x ⌝ }
-{
-    x as u32
-}
-
 // Takes short numbers one after the other from `from` on, as long as their codes are below `limit` and there is room for them
 // in the slice from `first` on. Nearly all tokens of a proof in use are taken here; whatever is not as expected is left to
 // `feed`, which decides.
@@ -123,7 +116,7 @@ fn along(s: &[u8], from: usize, first: usize, limit: u64, slots: &mut [u32]) -> 
         if limit <= code {
             return Passed { next: i, end: end };
         }
-        slots[end] = narrow(code);
+        slots[end] = body::narrow(code);
         end += 1;
         i += clauses::index(r % 16);
     }

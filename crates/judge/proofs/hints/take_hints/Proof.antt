@@ -24,8 +24,8 @@ guess-next-requires c κs = c .before .before .before .before .before .before .p
 peek-next-requires : tie.Need-peek-next-requires Inv-loop μ-loop
 peek-next-requires c κs = (ready-room _ _ _ _ (c .before .before .before .before .before .before .before .pre .0), c .before .before .before .before .before .before .before .pre .1 .1 .inside)
 
-second-requires : tie.Need-second-requires Inv-loop μ-loop
-second-requires c κs = search needs
+behind-requires : tie.Need-behind-requires Inv-loop μ-loop
+behind-requires c κs = search needs
 
 guess-next-requires-2 : tie.Need-guess-next-requires-2 Inv-loop μ-loop
 guess-next-requires-2 c κs = c .before .before .before .before .before .before .before .before .before .pre .1 .1 .inside
@@ -48,8 +48,8 @@ add-next c = omega (arith, c .before .before .loop-test .taken, c .before .befor
 peek-next-requires-2 : tie.Need-peek-next-requires-2 Inv-loop μ-loop
 peek-next-requires-2 c κs = (ready-room _ _ _ _ (c .before .before .before .before .before .before .before .before .before .before .before .before .before .before .pre .0), c .before .before .before .before .before .before .before .before .before .before .before .before .before .before .pre .1 .1 .inside)
 
-second-requires-2 : tie.Need-second-requires-2 Inv-loop μ-loop
-second-requires-2 c κs = search needs
+behind-requires-2 : tie.Need-behind-requires-2 Inv-loop μ-loop
+behind-requires-2 c κs = search needs
 
 guess-next-requires-3 : tie.Need-guess-next-requires-3 Inv-loop μ-loop
 guess-next-requires-3 c κs = c .before .before .before .before .before .before .before .before .before .before .before .before .before .before .before .before .pre .1 .1 .inside
@@ -98,7 +98,7 @@ take-hints-spec =
     μ-loop
     guess-next-requires
     peek-next-requires
-    second-requires
+    behind-requires
     guess-next-requires-2
     loop-holds
     mul-half
@@ -106,7 +106,7 @@ take-hints-spec =
     half-requires
     add-next
     peek-next-requires-2
-    second-requires-2
+    behind-requires-2
     guess-next-requires-3
     take-one-requires
     plus-requires
