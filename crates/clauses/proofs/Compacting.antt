@@ -11,11 +11,11 @@ use lib.Seq.{slice, getD-set-same, getD-set-other, ext-getD, getD-take, getD-dro
 use Rattle.meaning.proofs.Truth.{bool-cases}
 use Rattle.rules.specs.Judging.{Live}
 use Rattle.clauses.specs.Codes.{literalOf}
-use Rattle.clauses.specs.Store.{idAt, startAt, entryAt, liveOf, Store, Holds}
+use Rattle.clauses.specs.Store.{idAt, startAt, RoomFor, written, entryAt, liveOf, Store, Holds}
 use Rattle.clauses.specs.Moving.{Moved, Movable, Kept, Dropped, AllMoved}
 use Rattle.clauses.proofs.Entries.{clause-is, entry-live, entry-deleted, live-more, live-none, start-below}
 use Rattle.clauses.proofs.Numbers.{cut}
-use Rattle.clauses.proofs.Heads.{written, written-other, written-head, written-end}
+use Rattle.clauses.proofs.Heads.{written-long, written-ids, written-starts, written-id, written-end}
 use Rattle.clauses.proofs.Holding.{holds-empty, holds-literals, holds-more}
 
 -- The literals from `from` up to `i` are moved.
@@ -113,7 +113,8 @@ pub record Compacting (heads₀ lits₀ : List ℕ) (n : ℕ) (heads lits : List
   pub turns-counted : turns ≡ k
   pub heads-long : length heads ≡ length heads₀
   pub lits-long : length lits ≡ length lits₀
-  pub heads-rest : (i : ℕ) → 2 * k ≤ i → getD heads i 0 ≡ getD heads₀ i 0
+  pub ids-rest : (i : ℕ) → k ≤ i → idAt heads i ≡ idAt heads₀ i
+  pub starts-rest : (i : ℕ) → k ≤ i → startAt heads i ≡ startAt heads₀ i
   pub lits-rest : (i : ℕ) → startAt heads₀ k ≤ i → getD lits i 0 ≡ getD lits₀ i 0
   pub all-live : (i : ℕ) → i < m → idAt heads i % 2 ≡ 0
   pub bounds : (b : ℕ) → ((i : ℕ) → i < startAt heads₀ k → getD lits₀ i 0 < b) → (i : ℕ) → i < w → getD lits i 0 < b
@@ -130,7 +131,8 @@ compacting-start heads lits n used last s = record {
   turns-counted = refl;
   heads-long = refl;
   lits-long = refl;
-  heads-rest = λ i h. refl;
+  ids-rest = λ i h. refl;
+  starts-rest = λ i h. refl;
   lits-rest = λ i h. refl;
   all-live = λ i h. absurd (omega arith);
   bounds = λ b f i h. absurd (omega arith);
@@ -141,13 +143,13 @@ compacting-start heads lits n used last s = record {
 module _ (heads₀ lits₀ : List ℕ) (n used₀ last₀ : ℕ) (s : Store heads₀ lits₀ n used₀ last₀) (heads lits : List ℕ) (k m w moves turns : ℕ)
     (c : Compacting heads₀ lits₀ n heads lits k m w moves turns) (more : k < n) where
   id-there : idAt heads k ≡ idAt heads₀ k
-  id-there = c .heads-rest (2 * k) (omega arith)
+  id-there = c .ids-rest k (omega arith)
 
   start-there : startAt heads k ≡ startAt heads₀ k
-  start-there = c .heads-rest (2 * k + 1) (omega arith)
+  start-there = c .starts-rest k (omega arith)
 
   end-there : startAt heads (k + 1) ≡ startAt heads₀ (k + 1)
-  end-there = c .heads-rest (2 * (k + 1) + 1) (omega arith)
+  end-there = c .starts-rest (k + 1) (omega arith)
 
   forward : startAt heads₀ k ≤ startAt heads₀ (k + 1)
   forward = s .ordered k more
@@ -176,7 +178,8 @@ module _ (heads₀ lits₀ : List ℕ) (n used₀ last₀ : ℕ) (s : Store head
     turns-counted = omega (arith, c .turns-counted);
     heads-long = c .heads-long;
     lits-long = c .lits-long;
-    heads-rest = λ i h. c .heads-rest i (omega arith);
+    ids-rest = λ i h. c .ids-rest i (omega arith);
+    starts-rest = λ i h. c .starts-rest i (omega arith);
     lits-rest = λ i h. c .lits-rest i (omega (arith, forward));
     all-live = c .all-live;
     bounds = λ b f. c .bounds b (λ i h. f i (omega (arith, forward)));
@@ -201,33 +204,37 @@ module _ (heads₀ lits₀ : List ℕ) (n used₀ last₀ : ℕ) (s : Store head
     after : List ℕ
     after = written heads m (idAt heads k) (w + size)
 
-    room : 2 * m + 3 < length heads
+    room : RoomFor heads (m + 1)
     room = omega (arith, s .room, c .heads-long, c .kept)
 
     new-id : idAt after m ≡ idAt heads₀ k
     unfolding after
-    new-id = written-head heads m (idAt heads k) (w + size) room ∙ id-there
+    new-id = written-id heads m (idAt heads k) (w + size) room ∙ id-there
+
+    rest-ids : (i : ℕ) → k + 1 ≤ i → idAt after i ≡ idAt heads₀ i
+    unfolding after
+    rest-ids i h = written-ids heads m (idAt heads k) (w + size) i (λ e. omega (arith, c .kept)) ∙ c .ids-rest i (omega arith)
 
     -- Where nothing was dropped yet, the end that is written is the one that stands there.
-    rest-number : (i : ℕ) → 2 * (k + 1) ≤ i → getD after i 0 ≡ getD heads₀ i 0
+    rest-starts : (i : ℕ) → k + 1 ≤ i → startAt after i ≡ startAt heads₀ i
     unfolding after
-    rest-number i h = bool-cases (eqb i (2 * m + 3)) (λ y. there (eqb-true i (2 * m + 3) y)) (λ d. elsewhere (eqb-false i (2 * m + 3) d))
+    rest-starts i h = bool-cases (eqb i (m + 1)) (λ y. there (eqb-true i (m + 1) y)) (λ d. elsewhere (eqb-false i (m + 1) d))
       where
-        there : i ≡ 2 * m + 3 → getD after i 0 ≡ getD heads₀ i 0
+        there : i ≡ m + 1 → startAt after i ≡ startAt heads₀ i
         there e =
             let all : m ≡ k = omega (arith, c .kept) in
-            let z : 2 * (k + 1) + 1 ≡ i = omega arith in
+            let z : k + 1 ≡ i = omega arith in
             let v : w + size ≡ startAt heads₀ (k + 1) = omega (arith, c .level all, size-is, forward) in
-            ap (λ (x : ℕ). getD after x 0) e ∙ (written-end heads m (idAt heads k) (w + size) room ∙ (v ∙ ap (λ (x : ℕ). getD heads₀ x 0) z))
+            ap (startAt after) e ∙ (written-end heads m (idAt heads k) (w + size) room ∙ (v ∙ ap (startAt heads₀) z))
 
-        elsewhere : (i ≡ 2 * m + 3 → ⊥) → getD after i 0 ≡ getD heads₀ i 0
-        elsewhere d = written-other heads m (idAt heads k) (w + size) i (λ e. omega (arith, c .kept)) d ∙ c .heads-rest i (omega arith)
+        elsewhere : (i ≡ m + 1 → ⊥) → startAt after i ≡ startAt heads₀ i
+        elsewhere d = written-starts heads m (idAt heads k) (w + size) i d ∙ c .starts-rest i (omega arith)
 
     larger-more : (i j : ℕ) → i < m + 1 → k + 1 ≤ j → j < n → idAt after i / 2 < idAt heads₀ j / 2
     unfolding after
     larger-more i j h l b =
         ⊎-elim
-        (λ lt. rw (written-other heads m (idAt heads k) (w + size) (2 * i) (λ e. omega arith) (λ e. omega arith)) (c .larger i j lt (omega arith) b))
+        (λ lt. rw (written-ids heads m (idAt heads k) (w + size) i (λ e. omega arith)) (c .larger i j lt (omega arith) b))
         (λ ge. let z : i ≡ m = omega arith in rw (z, new-id) (s .rising k j (omega arith) b))
         (cut i m)
 
@@ -235,7 +242,7 @@ module _ (heads₀ lits₀ : List ℕ) (n used₀ last₀ : ℕ) (s : Store head
     unfolding after
     stay-live i h =
         ⊎-elim
-        (λ lt. rw (written-other heads m (idAt heads k) (w + size) (2 * i) (λ e. omega arith) (λ e. omega arith)) (c .all-live i lt))
+        (λ lt. rw (written-ids heads m (idAt heads k) (w + size) i (λ e. omega arith)) (c .all-live i lt))
         (λ ge. let z : i ≡ m = omega arith in rw (z, new-id, ← id-there) live)
         (cut i m)
 
@@ -258,7 +265,7 @@ module _ (heads₀ lits₀ : List ℕ) (n used₀ last₀ : ℕ) (s : Store head
         ∙ rw (id-there, same-literals, clause-is heads₀ lits₀ k (startAt heads₀ k) (startAt heads₀ (k + 1)) refl refl)
 
     holds-on : (used last : ℕ) → Store heads₀ lits₀ n used last → Holds after lits′ (m + 1) (w + size) last (liveOf heads₀ lits₀ (k + 1))
-    unfolding after written
+    unfolding after
     holds-on used last t =
         rw (live-more heads₀ lits₀ k, same-entry)
         (holds-more heads lits′ m w last (liveOf heads₀ lits₀ k)
@@ -283,8 +290,8 @@ module _ (heads₀ lits₀ : List ℕ) (n used₀ last₀ : ℕ) (s : Store head
             ∙ (ap (λ (x : ℕ). getD lits (x + j) 0) start-there ∙ c .lits-rest (startAt heads₀ k + j) (omega arith))) in
             rw here (f (startAt heads₀ k + j) (omega (arith, size-is)))
 
-    pub compacting-keep : Compacting heads₀ lits₀ n (set (set heads (2 * m) (idAt heads k)) (2 * m + 3) (w + (startAt heads (k + 1) - startAt heads k))) lits′ (k + 1) (m + 1) (w + (startAt heads (k + 1) - startAt heads k)) (moves + (startAt heads (k + 1) - startAt heads k)) (turns + 1)
-    unfolding after size written
+    pub compacting-keep : Compacting heads₀ lits₀ n (written heads m (idAt heads k) (w + (startAt heads (k + 1) - startAt heads k))) lits′ (k + 1) (m + 1) (w + (startAt heads (k + 1) - startAt heads k)) (moves + (startAt heads (k + 1) - startAt heads k)) (turns + 1)
+    unfolding after size
     compacting-keep = record {
       within = omega arith;
       kept = omega (arith, c .kept);
@@ -292,9 +299,10 @@ module _ (heads₀ lits₀ : List ℕ) (n used₀ last₀ : ℕ) (s : Store head
       level = λ e. omega (arith, c .level (omega arith), forward, size-is);
       moves-counted = ap (λ (x : ℕ). x + size) (c .moves-counted);
       turns-counted = omega (arith, c .turns-counted);
-      heads-long = simp length-set (c .heads-long);
+      heads-long = written-long heads m (idAt heads k) (w + size) ∙ c .heads-long;
       lits-long = moved .long ∙ c .lits-long;
-      heads-rest = rest-number;
+      ids-rest = rest-ids;
+      starts-rest = rest-starts;
       lits-rest = λ i h. moved .behind i (rw end-there h) ∙ c .lits-rest i (omega (arith, forward));
       all-live = stay-live;
       bounds = bounds-on;
@@ -305,7 +313,7 @@ module _ (heads₀ lits₀ : List ℕ) (n used₀ last₀ : ℕ) (s : Store head
 -- One clause, by what was read and written.
 pub kept-by : (heads lits : List ℕ) (k n used turns from end moved : ℕ) (heads′ lits′ : List ℕ) → idAt heads k % 2 ≡ 0
     → from ≡ startAt heads k → end ≡ startAt heads (k + 1) → Moved lits from end used lits′ × (moved ≡ end - from)
-    → heads′ ≡ set (set heads (2 * n) (idAt heads k)) (2 * n + 3) (used + (end - from))
+    → heads′ ≡ written heads n (idAt heads k) (used + (end - from))
     → Kept heads lits k n used turns heads′ lits′ (n + 1) (used + (end - from)) (turns + moved)
 kept-by heads lits k n used turns from end moved heads′ lits′ live f e m w = record {
   is-live = live;
@@ -335,7 +343,7 @@ compacting-on heads₀ lits₀ n used₀ last₀ s heads lits k m w moves turns 
 -- The count fits, since no slice is that long.
 pub compacting-small : (heads₀ lits₀ : List ℕ) (n used₀ last₀ : ℕ) → Store heads₀ lits₀ n used₀ last₀
     → (heads lits : List ℕ) (k m w moves turns : ℕ) → Compacting heads₀ lits₀ n heads lits k m w moves turns
-    → length heads₀ * 8 < 2 ^ 63 → length lits₀ * 4 < 2 ^ 63 → moves + turns < 2 ^ 64
+    → length heads₀ * 4 < 2 ^ 63 → length lits₀ * 4 < 2 ^ 63 → moves + turns < 2 ^ 64
 compacting-small heads₀ lits₀ n used₀ last₀ s heads lits k m w moves turns c a b =
     omega (arith, start-below heads₀ lits₀ n used₀ last₀ s k (c .within), s .fits, s .room)
 

@@ -8,14 +8,14 @@ use mathlib.Core.Option.{none, some}
 use native.Mathlib.Omega.{arith}
 use borrow.Author.Tests.{eqb-true, eqb-false}
 use lib.Dec.{eqb}
-use lib.ListN.{length, getD, set, take, length-set, length-append}
-use lib.Seq.{slice, getD-set-same, getD-set-other}
+use lib.ListN.{length, take, length-append}
+use lib.Seq.{slice}
 use Rattle.meaning.specs.Meaning.{Clause}
 use Rattle.meaning.proofs.Truth.{bool-cases}
 use Rattle.rules.specs.Judging.{Live, find, remove}
 use Rattle.rules.specs.Answers.{numbered}
 use Rattle.clauses.specs.Codes.{literalOf}
-use Rattle.clauses.specs.Store.{idAt, startAt, clauseAt, entryAt, liveOf, Store, Holds, clausesOf}
+use Rattle.clauses.specs.Store.{idAt, startAt, RoomFor, written, marked, clauseAt, entryAt, liveOf, Store, Holds, clausesOf}
 use Rattle.clauses.specs.Finding.{Rising, Searchable}
 use Rattle.clauses.specs.Moving.{Stored}
 use Rattle.clauses.proofs.Entries.{
@@ -31,7 +31,7 @@ use Rattle.clauses.proofs.Entries.{
   start-below,
 }
 use Rattle.clauses.proofs.Numbers.{cut}
-use Rattle.clauses.proofs.Heads.{written, written-long, written-other, written-head, written-end}
+use Rattle.clauses.proofs.Heads.{written-long, written-ids, written-starts, written-id, written-end, marked-long, marked-id, marked-ids, marked-starts}
 use Rattle.clauses.proofs.Looking.{remove-front, remove-behind, entry-removed, live-lacks, none-below, live-has}
 
 -- A store meets what `find`, `lookup` and `compact` ask for.
@@ -42,10 +42,10 @@ pub store-stored : (heads lits : List ℕ) (n used last : ℕ) → Store heads l
 store-stored heads lits n used last s = record { used = used; last = last; store = s }
 
 -- No clause.
-pub holds-empty : (heads lits : List ℕ) (last : ℕ) → 2 ≤ length heads → getD heads 1 0 ≡ 0 → Holds heads lits 0 0 last []
+pub holds-empty : (heads lits : List ℕ) (last : ℕ) → RoomFor heads 0 → startAt heads 0 ≡ 0 → Holds heads lits 0 0 last []
 holds-empty heads lits last room begins = record {
   store = record {
-    room = omega arith;
+    room = room;
     begins = begins;
     ordered = λ k h. absurd (omega arith);
     ends = begins;
@@ -105,19 +105,19 @@ module _ (heads lits : List ℕ) (n used last : ℕ) (live : Live) (h : Holds he
 
 -- One clause more, whose head is even, greater than all others and at most twice the last id.
 module _ (heads lits : List ℕ) (n used last : ℕ) (live : Live) (h : Holds heads lits n used last live) (head end : ℕ)
-    (room : 2 * n + 3 < length heads) (even : head % 2 ≡ 0) (larger : (k : ℕ) → k < n → idAt heads k / 2 < head / 2)
+    (room : RoomFor heads (n + 1)) (even : head % 2 ≡ 0) (larger : (k : ℕ) → k < n → idAt heads k / 2 < head / 2)
     (top : head / 2 ≤ last) (forward : used ≤ end) (inside : end ≤ length lits) where
   id-old : (k : ℕ) → k < n → idAt (written heads n head end) k ≡ idAt heads k
-  id-old k l = written-other heads n head end (2 * k) (λ e. omega arith) (λ e. omega arith)
+  id-old k l = written-ids heads n head end k (λ e. omega arith)
 
   id-new : idAt (written heads n head end) n ≡ head
-  id-new = written-head heads n head end room
+  id-new = written-id heads n head end room
 
   start-old : (k : ℕ) → k < n + 1 → startAt (written heads n head end) k ≡ startAt heads k
-  start-old k l = written-other heads n head end (2 * k + 1) (λ e. omega arith) (λ e. omega arith)
+  start-old k l = written-starts heads n head end k (λ e. omega arith)
 
   start-new : startAt (written heads n head end) (n + 1) ≡ end
-  start-new = let z : 2 * (n + 1) + 1 ≡ 2 * n + 3 = omega arith in rw z (written-end heads n head end room)
+  start-new = written-end heads n head end room
 
   ends-there : startAt (written heads n head end) n ≡ used
   ends-there = start-old n (omega arith) ∙ h .store .ends
@@ -127,7 +127,7 @@ module _ (heads lits : List ℕ) (n used last : ℕ) (live : Live) (h : Holds he
 
   store-more : Store (written heads n head end) lits (n + 1) end last
   store-more = record {
-    room = rw (written-long heads n head end) (omega arith);
+    room = rw (written-long heads n head end) room;
     begins = start-old 0 (omega arith) ∙ h .store .begins;
     ordered = λ k l.
         ⊎-elim
@@ -158,8 +158,7 @@ module _ (heads lits : List ℕ) (n used last : ℕ) (live : Live) (h : Holds he
       entry-live (written heads n head end) lits n (rw id-new even)
       ∙ ap (λ (e : ℕ × Clause). e ∷ []) (rw (id-new, clause-is (written heads n head end) lits n used end ends-there start-new))
 
-  pub holds-more : Holds (set (set heads (2 * n) head) (2 * n + 3) end) lits (n + 1) end last (live ++ ((head / 2, map literalOf (slice used end lits)) ∷ []))
-  unfolding written
+  pub holds-more : Holds (written heads n head end) lits (n + 1) end last (live ++ ((head / 2, map literalOf (slice used end lits)) ∷ []))
   holds-more = record {
     store = store-more;
     same =
@@ -170,8 +169,8 @@ module _ (heads lits : List ℕ) (n used last : ℕ) (live : Live) (h : Holds he
 
 -- A clause is added under a fresh id: its literals are those from `used` up to `end`.
 pub holds-append : (heads lits : List ℕ) (n used last : ℕ) (live : Live) → Holds heads lits n used last live
-    → (id end : ℕ) → last < id → used ≤ end → end ≤ length lits → 2 * n + 3 < length heads
-    → Holds (set (set heads (2 * n) (2 * id)) (2 * n + 3) end) lits (n + 1) end id (live ++ ((id, map literalOf (slice used end lits)) ∷ []))
+    → (id end : ℕ) → last < id → used ≤ end → end ≤ length lits → RoomFor heads (n + 1)
+    → Holds (written heads n (2 * id) end) lits (n + 1) end id (live ++ ((id, map literalOf (slice used end lits)) ∷ []))
 holds-append heads lits n used last live h id end fresh forward inside room =
     rw half at
     (holds-more heads lits n used id live (holds-last heads lits n used last live h id (omega arith)) (2 * id) end
@@ -186,70 +185,58 @@ holds-append heads lits n used last live h id end fresh forward inside room =
     half = omega arith
 
 -- One clause is deleted.
-module _ (heads lits : List ℕ) (k id : ℕ) (room : 2 * k < length heads) (is-id : idAt heads k ≡ 2 * id) where
-  without : List ℕ
-  without = set heads (2 * k) (idAt heads k + 1)
+module _ (heads lits : List ℕ) (k id : ℕ) (room : 3 * k < length heads) (is-id : idAt heads k ≡ 2 * id) where
+  deleted-number : idAt (marked heads k) k ≡ 2 * id + 1
+  deleted-number = marked-id heads k room ∙ omega arith
 
-  kept-number : (j : ℕ) → (j ≡ 2 * k → ⊥) → getD without j 0 ≡ getD heads j 0
-  unfolding without
-  kept-number j d = getD-set-other heads (2 * k) j (idAt heads k + 1) 0 d
-
-  deleted-number : idAt without k ≡ 2 * id + 1
-  unfolding without
-  deleted-number = getD-set-same heads (2 * k) (idAt heads k + 1) 0 room ∙ omega arith
-
-  same-start : (j : ℕ) → startAt without j ≡ startAt heads j
-  same-start j = kept-number (2 * j + 1) (λ e. omega arith)
-
-  same-half : (j : ℕ) → idAt without j / 2 ≡ idAt heads j / 2
+  same-half : (j : ℕ) → idAt (marked heads k) j / 2 ≡ idAt heads j / 2
   same-half j = bool-cases (eqb j k) (λ y. there (eqb-true j k y)) (λ n. elsewhere (eqb-false j k n))
     where
-      there : j ≡ k → idAt without j / 2 ≡ idAt heads j / 2
+      there : j ≡ k → idAt (marked heads k) j / 2 ≡ idAt heads j / 2
       there e = rw (e, deleted-number, is-id) (omega arith)
 
-      elsewhere : (j ≡ k → ⊥) → idAt without j / 2 ≡ idAt heads j / 2
-      elsewhere d = ap (λ (x : ℕ). x / 2) (kept-number (2 * j) (λ e. d (omega arith)))
+      elsewhere : (j ≡ k → ⊥) → idAt (marked heads k) j / 2 ≡ idAt heads j / 2
+      elsewhere d = ap (λ (x : ℕ). x / 2) (marked-ids heads k j d)
 
-  same-clause : (j : ℕ) → clauseAt without lits j ≡ clauseAt heads lits j
+  same-clause : (j : ℕ) → clauseAt (marked heads k) lits j ≡ clauseAt heads lits j
   same-clause j =
-      clause-is without lits j (startAt heads j) (startAt heads (j + 1)) (same-start j) (same-start (j + 1))
+      clause-is (marked heads k) lits j (startAt heads j) (startAt heads (j + 1)) (marked-starts heads k j) (marked-starts heads k (j + 1))
       ∙ sym (clause-is heads lits j (startAt heads j) (startAt heads (j + 1)) refl refl)
 
-  same-entry : (j : ℕ) → (j ≡ k → ⊥) → entryAt without lits j ≡ entryAt heads lits j
-  same-entry j d = entry-same heads lits without lits j (kept-number (2 * j) (λ e. d (omega arith))) (same-clause j)
+  same-entry : (j : ℕ) → (j ≡ k → ⊥) → entryAt (marked heads k) lits j ≡ entryAt heads lits j
+  same-entry j d = entry-same heads lits (marked heads k) lits j (marked-ids heads k j d) (same-clause j)
 
-  live-removed : (n : ℕ) → k < n → Rising heads n → liveOf without lits n ≡ remove id (liveOf heads lits n)
+  live-removed : (n : ℕ) → k < n → Rising heads n → liveOf (marked heads k) lits n ≡ remove id (liveOf heads lits n)
   live-removed zero l r = absurd (omega arith)
   live-removed (suc n) l r =
       ⊎-elim
       (λ lt.
-      live-suc without lits n
-      ∙ (ap (λ (x : Live). x ++ entryAt without lits n) (live-removed n lt (λ i j a b. r i j a (omega arith)))
+      live-suc (marked heads k) lits n
+      ∙ (ap (λ (x : Live). x ++ entryAt (marked heads k) lits n) (live-removed n lt (λ i j a b. r i j a (omega arith)))
       ∙ (ap (λ (x : Live). remove id (liveOf heads lits n) ++ x) (same-entry n (λ e. omega arith))
       ∙ (sym (remove-front id (entryAt heads lits n) (liveOf heads lits n) (clauseAt heads lits k) (live-has heads lits id n k (λ i j a b. r i j a (omega arith)) lt is-id))
       ∙ sym (ap (remove id) (live-suc heads lits n))))))
       (λ ge.
       let z : n ≡ k = omega arith in
-      live-suc without lits n
-      ∙ (ap (λ (x : Live). x ++ entryAt without lits n) (live-same heads lits without lits n (λ j h. same-entry j (λ e. omega arith)))
-      ∙ (ap (λ (x : Live). liveOf heads lits n ++ x) (entry-deleted without lits n (λ e. odd (rw z at e)) ∙ sym (entry-removed heads lits id n (rw z is-id)))
+      live-suc (marked heads k) lits n
+      ∙ (ap (λ (x : Live). x ++ entryAt (marked heads k) lits n) (live-same heads lits (marked heads k) lits n (λ j h. same-entry j (λ e. omega arith)))
+      ∙ (ap (λ (x : Live). liveOf heads lits n ++ x) (entry-deleted (marked heads k) lits n (λ e. odd (rw z at e)) ∙ sym (entry-removed heads lits id n (rw z is-id)))
       ∙ (sym (remove-behind id (entryAt heads lits n) (liveOf heads lits n) (none-below heads lits id n r (rw z is-id)))
       ∙ sym (ap (remove id) (live-suc heads lits n))))))
       (cut k n)
     where
-      odd : idAt without k % 2 ≡ 0 → ⊥
+      odd : idAt (marked heads k) k % 2 ≡ 0 → ⊥
       odd e = omega (arith, deleted-number)
 
 pub holds-delete : (heads lits : List ℕ) (n used last : ℕ) (live : Live) → Holds heads lits n used last live
-    → (k id : ℕ) → k < n → idAt heads k ≡ 2 * id → Holds (set heads (2 * k) (idAt heads k + 1)) lits n used last (remove id live)
-unfolding without
+    → (k id : ℕ) → k < n → idAt heads k ≡ 2 * id → Holds (marked heads k) lits n used last (remove id live)
 holds-delete heads lits n used last live h k id l e =
-    let room : 2 * k < length heads = omega (arith, h .store .room) in
-    let start = same-start heads lits k id room e in
+    let room : 3 * k < length heads = omega (arith, h .store .room) in
+    let start = marked-starts heads k in
     let half = same-half heads lits k id room e in
     record {
       store = record {
-        room = rw length-set (h .store .room);
+        room = rw (marked-long heads k) (h .store .room);
         begins = start 0 ∙ h .store .begins;
         ordered = λ j m. rw (start j, start (j + 1)) (h .store .ordered j m);
         ends = start n ∙ h .store .ends;

@@ -13,5 +13,5 @@ pub cut : (a b : ℕ) → (a < b) ⊎ (b ≤ a)
 cut a b = bool-cases (ltb a b) (λ y. inl (ltb-true a b y)) (λ n. inr (ltb-false a b n))
 
 -- A mask leaves no more than it has itself.
-pub mask-below : (r x m slots : ℕ) → r ≡ bitAnd x m → m < slots → r < slots
-mask-below r x m slots e h = omega (arith, e, h, and-le-r x m)
+pub mask-below : (r x m : ℕ) → r ≡ bitAnd x m → r ≤ m
+mask-below r x m e = omega (arith, e, and-le-r x m)

@@ -6,7 +6,7 @@ use mathlib.Core.Bool.{true, false}
 use mathlib.Core.List.{List}
 use lib.Dec.{leb}
 use lib.ListN.{length}
-use Rattle.clauses.specs.Store.{idAt}
+use Rattle.clauses.specs.Store.{idAt, RoomFor}
 use Rattle.clauses.specs.declared.Found.{Found}
 use Rattle.clauses.specs.declared.Found.the-variants.{At, Nowhere}
 
@@ -16,7 +16,7 @@ Rising heads n = (j k : ℕ) → j < k → k < n → idAt heads j / 2 < idAt hea
 
 -- What a search for `id` among the first n clauses asks for.
 pub record Searchable (heads : List ℕ) (n id : ℕ) : Type 0 where
-  pub room : 2 * n + 1 < length heads
+  pub room : RoomFor heads n
   pub rising : Rising heads n
   pub small : id < 2 ^ 60
 

@@ -3,9 +3,9 @@ use Prim.Native.Nat.{ℕ, _+_, _-_, _*_, _%_, _<_, _≤_}
 use mathlib.Core.Path.{_≡_}
 use mathlib.Core.Logic.{_⊎_}
 use mathlib.Core.List.{List}
-use lib.ListN.{length, getD, set}
+use lib.ListN.{length, getD}
 use Rattle.rules.specs.Judging.{Live}
-use Rattle.clauses.specs.Store.{idAt, startAt, Store, Holds}
+use Rattle.clauses.specs.Store.{idAt, startAt, RoomFor, written, Store, Holds}
 use Rattle.clauses.specs.declared.Compacted.{Compacted}
 
 -- The two lists hold a store of n clauses.
@@ -23,7 +23,7 @@ pub record Moved (before : List ℕ) (from end to : ℕ) (after : List ℕ) : Ty
 
 -- What one clause asks for that is to move down.
 pub record Movable (heads lits : List ℕ) (k n used turns : ℕ) : Type 0 where
-  pub room : 2 * k + 3 < length heads
+  pub room : RoomFor heads (k + 1)
   pub below : n ≤ k
   pub forward : startAt heads k ≤ startAt heads (k + 1)
   pub inside : startAt heads (k + 1) ≤ length lits
@@ -36,7 +36,7 @@ pub record Kept (heads lits : List ℕ) (k n used turns : ℕ) (heads′ lits′
   pub next : n′ ≡ n + 1
   pub end : used′ ≡ used + (startAt heads (k + 1) - startAt heads k)
   pub counted : turns′ ≡ turns + (startAt heads (k + 1) - startAt heads k)
-  pub head : heads′ ≡ set (set heads (2 * n) (idAt heads k)) (2 * n + 3) used′
+  pub head : heads′ ≡ written heads n (idAt heads k) used′
   pub literals : Moved lits (startAt heads k) (startAt heads (k + 1)) used lits′
 
 -- The k-th clause is deleted, and nothing has changed.

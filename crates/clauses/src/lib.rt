@@ -3,10 +3,10 @@
 // slices that hold no store; that what a function leaves is a store again is said by laws in proofs/, not by its contract.
 ghost use mathlib.Core.Path.{_≡_};
 ghost use Prim.Native.Nat.{_+_, _-_, _*_, _/_, _%_, _<_, _≤_, _^_};
-ghost use lib.ListN.{length, set};
+ghost use lib.ListN.{length};
 ghost use Rattle.clauses.specs.Codes.{oppositeCode};
 ghost use Rattle.clauses.specs.Counting.{Counts};
-ghost use Rattle.clauses.specs.Store.{idAt};
+ghost use Rattle.clauses.specs.Store.{idAt, startAt, RoomFor, written, marked};
 ghost use Rattle.clauses.specs.Finding.{Searchable, Peeked, FoundIn, turnsOf, Halvings, AtMostHalvings, reachedBy};
 ghost use Rattle.clauses.specs.Moving.{Stored, Moved, Movable, OneMoved, AllMoved};
 
@@ -23,7 +23,7 @@ pub struct Compacted {
     pub turns: u64,
 }
 
-// A number of a head, as an index.
+// A number of 64 bits, as an index.
 pub fn index(x: u64) -> usize
     ensures { λ r. ⌜ r ≡ x ⌝ }
 {
@@ -44,11 +44,26 @@ pub fn half(x: u32) -> u64
     (x / 2) as u64
 }
 
-// An index, as a number of a head.
+// An index, as a number of 64 bits.
 pub fn count(x: usize) -> u64
     ensures { λ r. ⌜ r ≡ x ⌝ }
 {
     x as u64
+}
+
+// A number of 32 bits, as one of 64.
+fn wide(x: u32) -> u64
+    ensures { λ r. ⌜ r ≡ x ⌝ }
+{
+    x as u64
+}
+
+// A number that fits, as one of 32 bits.
+pub fn narrow(x: u64) -> u32
+    requires { ⌜ x < 2 ^ 32 ⌝ }
+    ensures { λ r. ⌜ r ≡ x ⌝ }
+{
+    x as u32
 }
 
 // Turns and more turns, up to the greatest count.
@@ -70,6 +85,29 @@ pub fn opposite(l: u32) -> u32
     if l % 2 == 0 { l + 1 } else { l - 1 }
 }
 
+// The head of the `k`-th clause: twice its id, plus 1 if it is deleted.
+pub fn head_at(heads: &[u32], k: usize) -> u64
+    requires { ⌜ 3 * k < length (now heads) ⌝ }
+    ensures { λ r. ⌜ r ≡ idAt (now (heads .entry)) k ⌝ }
+{
+    wide(heads[3 * k])
+}
+
+// An index, of its rest and its quotient by 2 ^ 32.
+fn join(low: u32, high: u32) -> usize
+    ensures { λ r. ⌜ r ≡ low + 4294967296 * high ⌝ }
+{
+    cell(low) + 4294967296 * cell(high)
+}
+
+// Where the literals of the `k`-th clause begin.
+pub fn start_at(heads: &[u32], k: usize) -> usize
+    requires { ⌜ RoomFor (now heads) k ⌝ }
+    ensures { λ r. ⌜ r ≡ startAt (now (heads .entry)) k ⌝ }
+{
+    join(heads[3 * k + 1], heads[3 * k + 2])
+}
+
 // 1 if `head` has an id of at most `id`, else 0. The difference stands for the test, so that no branch is taken on it.
 fn reached(id: u64, head: u64) -> usize
     requires { ⌜ id < 2 ^ 60 ⌝ }
@@ -80,7 +118,7 @@ fn reached(id: u64, head: u64) -> usize
 }
 
 // The place of the live clause `id` among the first `n`, by halving.
-pub fn find(heads: &[u64], n: usize, id: u64) -> Found
+pub fn find(heads: &[u32], n: usize, id: u64) -> Found
     requires { ⌜ Searchable (now heads) n id ⌝ }
     ensures place { λ r. ⌜ FoundIn (now (heads .entry)) n id r ⌝ }
     ensures turns { λ r. ⌜ Halvings n (turnsOf r) ⌝ }
@@ -94,11 +132,11 @@ pub fn find(heads: &[u64], n: usize, id: u64) -> Found
     while 1 < span {
         let half = span / 2;
         let middle = base + half;
-        base = base + half * reached(id, heads[2 * middle]);
+        base = base + half * reached(id, head_at(heads, middle));
         span = span - half;
         turns += 1;
     }
-    if heads[2 * base] == 2 * id {
+    if head_at(heads, base) == 2 * id {
         return Found::At {
             place: base,
             turns: turns,
@@ -123,13 +161,22 @@ fn mask(slots: usize) -> u64
     0
 }
 
-// Where the guess for `id` stands among so many. By a mask there is no division in a look-up; so only a power of 2 of the slots
-// is in use.
-fn slot(id: u64, slots: usize) -> usize
-    requires { ⌜ 0 < slots ⌝ }
-    ensures { λ r. ⌜ r < slots ⌝ }
+// The bits of a number that a mask has.
+fn within(x: u64, most: u64) -> usize
+    ensures { λ r. ⌜ r ≤ most ⌝ }
 {
-    index(id & mask(slots))
+    index(x & most)
+}
+
+// Where the guess for `id` stands. The first number of the table says how many of the bits of an id are not used at the upper
+// end, so that the guesses for few clauses do not lie all over a long table; and the mask leaves a power of 2 of the slots.
+fn slot(guess: &[u32], id: u64) -> usize
+    requires { ⌜ 1 < length (now guess) ⌝ }
+    ensures { λ r. ⌜ r < length (now (guess .entry)) ⌝ }
+{
+    let bits = 18446744073709551615 >> (guess[0] % 64);
+    let most = mask(guess.len() - 1);
+    1 + within(id & bits, most)
 }
 
 // How far a clause lies below the place that it would have if no id were left out and nothing had been given back. (A number
@@ -140,10 +187,10 @@ fn below(id: u64, place: usize) -> usize {
 
 // How far the clause `id` is guessed to lie below that place.
 fn noted(guess: &[u32], id: u64) -> usize {
-    if guess.len() == 0 {
+    if guess.len() < 2 {
         return 0;
     }
-    let at = slot(id, guess.len());
+    let at = slot(guess, id);
     cell(guess[at])
 }
 
@@ -155,12 +202,12 @@ pub fn guessed(guess: &[u32], id: u64) -> usize {
 
 // The place of the live clause `id` if the guess for it is right, else `n`. This is the first half of a `lookup`, of its own so that a
 // caller can make it ahead of time, and the memory where the clause's head stands is there once the rest is done.
-pub fn peek(heads: &[u64], n: usize, place: usize, id: u64) -> usize
-    requires { ⌜ (2 * n < length (now heads)) × (id < 2 ^ 60) ⌝ }
+pub fn peek(heads: &[u32], n: usize, place: usize, id: u64) -> usize
+    requires { ⌜ RoomFor (now heads) n × (id < 2 ^ 60) ⌝ }
     ensures { λ r. ⌜ Peeked (now (heads .entry)) n id r ⌝ }
 {
     if place < n {
-        if heads[2 * place] == 2 * id {
+        if head_at(heads, place) == 2 * id {
             return place;
         }
     }
@@ -168,7 +215,7 @@ pub fn peek(heads: &[u64], n: usize, place: usize, id: u64) -> usize
 }
 
 // As `find`, behind a `peek` that came to `place`. A right guess costs no turn.
-pub fn lookup_at(heads: &[u64], n: usize, place: usize, id: u64) -> Found
+pub fn lookup_at(heads: &[u32], n: usize, place: usize, id: u64) -> Found
     requires { ⌜ Searchable (now heads) n id ⌝ }
     requires { ⌜ Peeked (now heads) n id place ⌝ }
     ensures place { λ r. ⌜ FoundIn (now (heads .entry)) n id r ⌝ }
@@ -184,7 +231,7 @@ pub fn lookup_at(heads: &[u64], n: usize, place: usize, id: u64) -> Found
 }
 
 // As `find`, with a guess first, which may be wrong.
-pub fn lookup(heads: &[u64], n: usize, guess: &[u32], id: u64) -> Found
+pub fn lookup(heads: &[u32], n: usize, guess: &[u32], id: u64) -> Found
     requires { ⌜ Searchable (now heads) n id ⌝ }
     ensures place { λ r. ⌜ FoundIn (now (heads .entry)) n id r ⌝ }
     ensures turns { λ r. ⌜ AtMostHalvings n (turnsOf r) ⌝ }
@@ -193,73 +240,89 @@ pub fn lookup(heads: &[u64], n: usize, guess: &[u32], id: u64) -> Found
     lookup_at(heads, n, place, id)
 }
 
-// A place, as a guess holds it.
-fn narrow(x: usize) -> u32
-    requires { ⌜ x < 2 ^ 32 ⌝ }
-    ensures { λ r. ⌜ r ≡ x ⌝ }
-{
-    x as u32
-}
-
 // The next guess for `id` is `place`, if there is room for a guess. What is right already is not written again, so that memory
 // which the caller has not touched yet is not taken for it.
 pub fn note(guess: &mut [u32], id: u64, place: usize)
     ensures { λ _. ⌜ length (now (guess .exit)) ≡ length (now (guess .entry)) ⌝ }
 {
-    if guess.len() == 0 {
+    if guess.len() < 2 {
         return;
     }
     let moved = below(id, place);
     if 4294967295 < moved {
         return;
     }
-    let at = slot(id, guess.len());
-    let now = narrow(moved);
+    let at = slot(guess, id);
+    let now = narrow(count(moved));
     if guess[at] == now {
         return;
     }
     guess[at] = now;
 }
 
+// The table is used as far as `n` clauses ask for: 16 to 32 slots for each.
+fn fit(guess: &mut [u32], n: usize)
+    ensures { λ _. ⌜ length (now (guess .exit)) ≡ length (now (guess .entry)) ⌝ }
+{
+    if guess.len() == 0 {
+        return;
+    }
+    let zeros = u64::leading_zeros(count(n));
+    guess[0] = if zeros < 4 { 0 } else { zeros - 4 };
+}
+
 // The next guess for each of the first `n` clauses is its place.
-pub fn note_all(heads: &[u64], n: usize, guess: &mut [u32]) -> u64
-    requires { ⌜ 2 * n + 1 < length (now heads) ⌝ }
+pub fn note_all(heads: &[u32], n: usize, guess: &mut [u32]) -> u64
+    requires { ⌜ RoomFor (now heads) n ⌝ }
     ensures turns { λ r. ⌜ r ≡ n ⌝ }
     ensures long { λ _. ⌜ length (now (guess .exit)) ≡ length (now (guess .entry)) ⌝ }
 {
+    fit(guess, n);
     let mut place = 0;
     let mut noted: u64 = 0;
     while place < n {
-        note(guess, heads[2 * place] / 2, place);
+        note(guess, head_at(heads, place) / 2, place);
         place += 1;
         noted += 1;
     }
     noted
 }
 
-// The head of the `n`-th clause, and where its literals end.
-fn write_head(heads: &mut [u64], n: usize, head: u64, end: usize)
-    requires { ⌜ 2 * n + 3 < length (now heads) ⌝ }
-    ensures { λ _. ⌜ now (heads .exit) ≡ set (set (now (heads .entry)) (2 * n) head) (2 * n + 3) end ⌝ }
+// No clause: its literals would begin where all do.
+pub fn begin(heads: &mut [u32])
+    requires { ⌜ RoomFor (now heads) 0 ⌝ }
+    ensures begins { λ _. ⌜ startAt (now (heads .exit)) 0 ≡ 0 ⌝ }
+    ensures long { λ _. ⌜ length (now (heads .exit)) ≡ length (now (heads .entry)) ⌝ }
 {
-    heads[2 * n] = head;
-    heads[2 * n + 3] = count(end);
+    heads[1] = 0;
+    heads[2] = 0;
+}
+
+// The head of the `n`-th clause, and where its literals end.
+fn write_head(heads: &mut [u32], n: usize, head: u32, end: usize)
+    requires { ⌜ RoomFor (now heads) (n + 1) ⌝ }
+    ensures { λ _. ⌜ now (heads .exit) ≡ written (now (heads .entry)) n head end ⌝ }
+{
+    let all = count(end);
+    heads[3 * n] = head;
+    heads[3 * n + 4] = narrow(all % 4294967296);
+    heads[3 * n + 5] = narrow(all / 4294967296);
 }
 
 // The clause that ends at `end` becomes the `n`-th, under `id`.
-pub fn append(heads: &mut [u64], n: usize, id: u64, end: usize)
-    requires { ⌜ (2 * n + 3 < length (now heads)) × (id < 2 ^ 60) ⌝ }
-    ensures { λ _. ⌜ now (heads .exit) ≡ set (set (now (heads .entry)) (2 * n) (2 * id)) (2 * n + 3) end ⌝ }
+pub fn append(heads: &mut [u32], n: usize, id: u64, end: usize)
+    requires { ⌜ RoomFor (now heads) (n + 1) × (id < 2 ^ 31) ⌝ }
+    ensures { λ _. ⌜ now (heads .exit) ≡ written (now (heads .entry)) n (2 * id) end ⌝ }
 {
-    write_head(heads, n, 2 * id, end);
+    write_head(heads, n, narrow(2 * id), end);
 }
 
 // The `k`-th clause, which is live, is deleted.
-pub fn delete(heads: &mut [u64], k: usize)
-    requires { ⌜ (2 * k < length (now heads)) × (idAt (now heads) k % 2 ≡ 0) ⌝ }
-    ensures { λ _. ⌜ now (heads .exit) ≡ set (now (heads .entry)) (2 * k) (idAt (now (heads .entry)) k + 1) ⌝ }
+pub fn delete(heads: &mut [u32], k: usize)
+    requires { ⌜ (3 * k < length (now heads)) × (idAt (now heads) k % 2 ≡ 0) ⌝ }
+    ensures { λ _. ⌜ now (heads .exit) ≡ marked (now (heads .entry)) k ⌝ }
 {
-    heads[2 * k] = heads[2 * k] + 1;
+    heads[3 * k] = heads[3 * k] + 1;
 }
 
 // The literals from `from` up to `end` move down to `to`. Returns the turns.
@@ -280,16 +343,16 @@ fn shift(lits: &mut [u32], from: usize, end: usize, to: usize) -> u64
 }
 
 // The `k`-th clause moves down behind those that stay, if it is live.
-fn keep(heads: &mut [u64], lits: &mut [u32], k: usize, done: Compacted) -> Compacted
+fn keep(heads: &mut [u32], lits: &mut [u32], k: usize, done: Compacted) -> Compacted
     requires { ⌜ Movable (now heads) (now lits) k (done .n) (done .used) (done .turns) ⌝ }
     ensures { λ r. ⌜ OneMoved (now (heads .entry)) (now (lits .entry)) k done (now (heads .exit)) (now (lits .exit)) r ⌝ }
 {
-    let head = heads[2 * k];
+    let head = heads[3 * k];
     if head % 2 != 0 {
         return done;
     }
-    let from = index(heads[2 * k + 1]);
-    let end = index(heads[2 * (k + 1) + 1]);
+    let from = start_at(heads, k);
+    let end = start_at(heads, k + 1);
     let moved = shift(lits, from, end, done.used);
     let used = done.used + (end - from);
     write_head(heads, done.n, head, used);
@@ -303,7 +366,7 @@ fn keep(heads: &mut [u64], lits: &mut [u32], k: usize, done: Compacted) -> Compa
 }
 
 // The live ones of the first `n` clauses move down, in order, and the deleted ones go.
-pub fn compact(heads: &mut [u64], lits: &mut [u32], n: usize) -> Compacted
+pub fn compact(heads: &mut [u32], lits: &mut [u32], n: usize) -> Compacted
     requires { ⌜ Stored (now heads) (now lits) n ⌝ }
     ensures { λ r. ⌜ AllMoved (now (heads .entry)) (now (lits .entry)) n (now (heads .exit)) (now (lits .exit)) r ⌝ }
 {

@@ -37,14 +37,8 @@ loop-holds c = (bracket-start _ _ _ (c .if1 .left), halving-start _ (c .if1 .lef
 add-middle : tie.Need-add-middle Inv-loop μ-loop
 add-middle c = search needs
 
-mul-reached : tie.Need-mul-reached Inv-loop μ-loop
-mul-reached c = search needs
-
-mul-reached-2 : tie.Need-mul-reached-2 Inv-loop μ-loop
-mul-reached-2 c = search needs
-
-shared-slice-read-reached : tie.Need-shared-slice-read-reached Inv-loop μ-loop
-shared-slice-read-reached c = search needs
+head-at-requires : tie.Need-head-at-requires Inv-loop μ-loop
+head-at-requires c κs = search needs
 
 reached-requires : tie.Need-reached-requires Inv-loop μ-loop
 reached-requires c κs = search needs
@@ -65,25 +59,19 @@ loop-less : tie.Need-loop-less Inv-loop μ-loop
 loop-less c = search needs
 
 loop-again : tie.Need-loop-again Inv-loop μ-loop
-loop-again c = (rw (c .reached .ensures) (bracket-on _ _ _ _ _ (c .before .before .before .before .before .before .pre .rising) (c .before .before .before .loop .inv .0) (c .before .before .loop-test .taken)), halving-on _ _ _ _ (c .before .before .before .loop .inv .1) (c .before .before .loop-test .taken) (omega arith))
+loop-again c = (rw (c .reached .ensures, c .before .head-at .ensures) (bracket-on _ _ _ _ _ (c .before .before .before .before .before .before .pre .rising) (c .before .before .before .loop .inv .0) (c .before .before .loop-test .taken)), halving-on _ _ _ _ (c .before .before .before .loop .inv .1) (c .before .before .loop-test .taken) (omega arith))
+
+head-at-requires-2 : tie.Need-head-at-requires-2 Inv-loop μ-loop
+head-at-requires-2 c κs = search needs
 
 mul-if2 : tie.Need-mul-if2 Inv-loop μ-loop
 mul-if2 c = search needs
 
-mul-if2-2 : tie.Need-mul-if2-2 Inv-loop μ-loop
-mul-if2-2 c = search needs
-
-shared-slice-read-if2 : tie.Need-shared-slice-read-if2 Inv-loop μ-loop
-shared-slice-read-if2 c = search needs
-
-mul-if2-3 : tie.Need-mul-if2-3 Inv-loop μ-loop
-mul-if2-3 c = search needs
-
 returns-2 : tie.Need-returns-2 Inv-loop μ-loop
-returns-2 c = ((omega arith, omega (arith, c .if2 .taken)), halving-end _ _ _ (c .before .before .before .loop .inv .1) (c .before .before .before .loop .inv .0 .some) (c .before .before .loop-test .left))
+returns-2 c = ((omega arith, omega (arith, c .if2 .taken, c .before .head-at2 .ensures)), halving-end _ _ _ (c .before .before .before .loop .inv .1) (c .before .before .before .loop .inv .0 .some) (c .before .before .loop-test .left))
 
 returns-3 : tie.Need-returns-3 Inv-loop μ-loop
-returns-3 c = (bracket-none _ _ _ _ _ (c .before .before .before .loop .inv .0) (c .before .before .loop-test .left) (λ e. c .if2 .left (omega arith)), halving-end _ _ _ (c .before .before .before .loop .inv .1) (c .before .before .before .loop .inv .0 .some) (c .before .before .loop-test .left))
+returns-3 c = (bracket-none _ _ _ _ _ (c .before .before .before .loop .inv .0) (c .before .before .loop-test .left) (λ e. c .if2 .left (omega (arith, c .before .head-at2 .ensures))), halving-end _ _ _ (c .before .before .before .loop .inv .1) (c .before .before .before .loop .inv .0 .some) (c .before .before .loop-test .left))
 
 pub find-spec : {M : Type 1} → statement M
 find-spec =
@@ -94,9 +82,7 @@ find-spec =
     returns
     loop-holds
     add-middle
-    mul-reached
-    mul-reached-2
-    shared-slice-read-reached
+    head-at-requires
     reached-requires
     mul-base
     add-base
@@ -104,9 +90,7 @@ find-spec =
     add-turns
     loop-less
     loop-again
+    head-at-requires-2
     mul-if2
-    mul-if2-2
-    shared-slice-read-if2
-    mul-if2-3
     returns-2
     returns-3)

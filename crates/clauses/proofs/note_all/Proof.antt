@@ -13,17 +13,14 @@ Inv-loop heads n guess₀ place₀ noted₀ guess place noted = (place ≤ n) ×
 abbrev μ-loop : tie.MeasureT-loop
 μ-loop heads n guess₀ place₀ noted₀ guess place noted = n - place
 
+fit-requires : tie.Need-fit-requires Inv-loop μ-loop
+fit-requires c κs = search needs
+
 loop-holds : tie.Need-loop-holds Inv-loop μ-loop
 loop-holds c = search needs
 
-mul-note : tie.Need-mul-note Inv-loop μ-loop
-mul-note c = search needs
-
-mul-note-2 : tie.Need-mul-note-2 Inv-loop μ-loop
-mul-note-2 c = search needs
-
-shared-slice-read-note : tie.Need-shared-slice-read-note Inv-loop μ-loop
-shared-slice-read-note c = search needs
+head-at-requires : tie.Need-head-at-requires Inv-loop μ-loop
+head-at-requires c κs = search needs
 
 note-requires : tie.Need-note-requires Inv-loop μ-loop
 note-requires c κs = search needs
@@ -52,10 +49,9 @@ note-all-spec =
     (tie.spec
     Inv-loop
     μ-loop
+    fit-requires
     loop-holds
-    mul-note
-    mul-note-2
-    shared-slice-read-note
+    head-at-requires
     note-requires
     add-place
     add-noted
