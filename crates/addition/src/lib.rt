@@ -89,7 +89,7 @@ fn ends(v: Verdict) -> bool
 
 // Takes the hints of clause `d`'s group.
 fn take_all(
-    heads: &[u64],
+    heads: &[u32],
     n: usize,
     guess: &[u32],
     lits: &[u32],
@@ -118,7 +118,7 @@ fn take_all(
 
 // The hints of clause `d`'s group, where making its other literals false came to this: they are looked at only if that was done.
 fn try_hints(
-    heads: &[u64],
+    heads: &[u32],
     n: usize,
     guess: &[u32],
     lits: &[u32],
@@ -154,7 +154,7 @@ fn try_hints(
 // The group of clause `d`, which stands at a place of the store: its literals other than `q` become false, its hints are taken,
 // and all that is taken back.
 fn judge_there(
-    heads: &[u64],
+    heads: &[u32],
     n: usize,
     guess: &[u32],
     lits: &[u32],
@@ -177,8 +177,8 @@ fn judge_there(
     requires { ⌜ turns < 65 + (to - from) ⌝ }
     ensures { λ r. ⌜ JudgesGroup (liveOf (now (heads .entry)) (now (lits .entry)) n) (now (lits .entry)) (now (marks .entry)) (now (tape .entry)) t q d (idsIn (now (hints .entry)) from to) turns (now (marks .exit)) (now (tape .exit)) (r .verdict) (r .turns) ⌝ }
 {
-    let start = clauses::index(heads[2 * place + 1]);
-    let end = clauses::index(heads[2 * (place + 1) + 1]);
+    let start = clauses::start_at(heads, place);
+    let end = clauses::start_at(heads, place + 1);
     let r = judge::falsifying::falsify_others(marks, tape, t, &lits[start..end], q);
     let f = r.falsity;
     let g = try_hints(
@@ -209,7 +209,7 @@ fn judge_there(
 // The group that begins at `at`; the next one, or the end, is at `next`. (That its clause is live is asked for before, in rule 4,
 // but it is found out here too.)
 fn judge_group(
-    heads: &[u64],
+    heads: &[u32],
     n: usize,
     guess: &[u32],
     lits: &[u32],
@@ -256,7 +256,7 @@ fn judge_group(
 
 // The groups from the one that begins at `from` on, in order, behind so many turns. Each goes on from the same assignment.
 fn judge_groups(
-    heads: &[u64],
+    heads: &[u32],
     n: usize,
     guess: &[u32],
     lits: &[u32],
@@ -296,7 +296,7 @@ fn judge_groups(
 
 // Rules 4 and 5, where the hints of rule 3 have ended at `from` with no conflict, behind so many turns.
 fn after_hints(
-    heads: &[u64],
+    heads: &[u32],
     n: usize,
     guess: &[u32],
     lits: &[u32],
@@ -349,7 +349,7 @@ fn after_hints(
 
 // Rules 3 to 5, where each literal of K is false, and nothing else, behind so many turns.
 fn judge_hints(
-    heads: &[u64],
+    heads: &[u32],
     n: usize,
     guess: &[u32],
     lits: &[u32],
@@ -404,7 +404,7 @@ fn judge_hints(
 
 // Rules 3 to 5, where making the literals of K false came to this, behind so many turns.
 fn judge_behind(
-    heads: &[u64],
+    heads: &[u32],
     n: usize,
     guess: &[u32],
     lits: &[u32],
@@ -453,7 +453,7 @@ fn judge_behind(
 
 // All rules but the first half of rule 1, from marks that show nothing; what is marked on the way is taken back.
 fn judge_clause(
-    heads: &[u64],
+    heads: &[u32],
     n: usize,
     guess: &[u32],
     lits: &[u32],
@@ -495,7 +495,7 @@ fn judge_clause(
 // Judges the addition under `id` of the clause K, whose literals lie in `lits` from `used` up to `end`, with the first `many`
 // hints. `last` is the greatest of C and the ids added before.
 pub fn judge_addition(
-    heads: &[u64],
+    heads: &[u32],
     n: usize,
     guess: &[u32],
     lits: &[u32],

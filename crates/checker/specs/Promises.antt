@@ -91,7 +91,7 @@ Occurs f p v = InFormula f v ⊎ InProof f p v
 -- How long the parts of the work store have to be, in numbers, for a formula of f bytes and a proof of p bytes with variables
 -- up to v.
 abbrev pub headsFor : ℕ → ℕ → ℕ
-headsFor f p = f + p + 4
+headsFor f p = (3 * (f + p) + 12) / 2
 
 abbrev pub litsFor : ℕ → ℕ → ℕ
 litsFor f p = (f + p + 3) / 2
@@ -146,7 +146,7 @@ pub record ShortLater (f p heads lits hints tape : List ℕ) (cells : ℕ) : Typ
 -- Why a part is too short: for the formula; or later.
 abbrev pub Short : List ℕ → List ℕ → List ℕ → List ℕ → List ℕ → List ℕ → ℕ → Type 0
 Short f p heads lits hints tape cells =
-    ((2 * length lits < length f + 1) ⊎ (length heads < length f + 3)) ⊎ ShortLater f p heads lits hints tape cells
+    ((2 * length lits < length f + 1) ⊎ (2 * length heads < 3 * length f + 9)) ⊎ ShortLater f p heads lits hints tape cells
 
 -- live: "too short" is answered only for a reason that goes by the live clauses, not by the length of the proof.
 abbrev pub FollowsLive : List ℕ → List ℕ → List ℕ → List ℕ → List ℕ → List ℕ → List ℕ → Answer → Type 0

@@ -105,7 +105,7 @@ fn has_marks(marks: usize, used: usize, top: u32) -> bool
 // checked, behind so many turns.
 fn check_stored(
     proof: &[u8],
-    heads: &mut [u64],
+    heads: &mut [u32],
     lits: &mut [u32],
     hints: &mut [u32],
     guess: &mut [u32],
@@ -148,7 +148,7 @@ fn check_stored(
 fn check_marked(
     formula: &[u8],
     proof: &[u8],
-    heads: &mut [u64],
+    heads: &mut [u32],
     lits: &mut [u32],
     hints: &mut [u32],
     guess: &mut [u32],
@@ -198,7 +198,7 @@ fn check_marked(
 pub fn check(
     formula: &[u8],
     proof: &[u8],
-    heads: &mut [u64],
+    heads: &mut [u32],
     lits: &mut [u32],
     hints: &mut [u32],
     guess: &mut [u32],

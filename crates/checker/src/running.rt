@@ -72,7 +72,7 @@ fn onward(o: Outcome, b: Between) -> Between
 pub fn run(
     proof: &[u8],
     first: Between,
-    heads: &mut [u64],
+    heads: &mut [u32],
     lits: &mut [u32],
     hints: &mut [u32],
     guess: &mut [u32],

@@ -7,12 +7,11 @@ use native.Mathlib.Omega.{arith}
 use native.Mathlib.Numerals.{add-one}
 use borrow.Author.Tests.{eqb-true, eqb-false, eq-eqb, ne-eqb}
 use lib.Dec.{eqb}
-use lib.ListN.{length, getD, set}
-use lib.Seq.{getD-set-same, getD-set-other}
+use lib.ListN.{length}
 use Rattle.meaning.proofs.Truth.{bool-cases}
-use Rattle.clauses.specs.Store.{idAt, startAt}
+use Rattle.clauses.specs.Store.{idAt, startAt, RoomFor, written, marked}
 use Rattle.clauses.proofs.Numbers.{cut}
-use Rattle.clauses.proofs.Heads.{written, written-other, written-head}
+use Rattle.clauses.proofs.Heads.{written-ids, written-starts, written-id, marked-id, marked-ids, marked-starts}
 use Rattle.deletion.specs.Deleting.{deadAt, deadOf}
 
 -- One clause.
@@ -68,39 +67,32 @@ dead-same heads heads′ (suc n) s =
     omega (arith, dead-suc heads n, dead-suc heads′ n, s n (omega arith), dead-same heads heads′ n (λ k h. s k (omega arith)))
 
 -- One clause more, which is live, changes nothing.
-module _ (heads : List ℕ) (n head end : ℕ) (room : 2 * n + 3 < length heads) (even : head % 2 ≡ 0) where
+module _ (heads : List ℕ) (n head end : ℕ) (room : RoomFor heads (n + 1)) (even : head % 2 ≡ 0) where
   before : (k : ℕ) → k < n → deadAt (written heads n head end) k ≡ deadAt heads k
   before k h =
       dead-at-same heads (written heads n head end) k
-      (written-other heads n head end (2 * k) (λ e. omega arith) (λ e. omega arith))
-      (written-other heads n head end (2 * k + 1) (λ e. omega arith) (λ e. omega arith))
-      (written-other heads n head end (2 * (k + 1) + 1) (λ e. omega arith) (λ e. omega arith))
+      (written-ids heads n head end k (λ e. omega arith))
+      (written-starts heads n head end k (λ e. omega arith))
+      (written-starts heads n head end (k + 1) (λ e. omega arith))
 
-  pub dead-append : deadOf (set (set heads (2 * n) head) (2 * n + 3) end) (n + 1) ≡ deadOf heads n
-  unfolding written
+  pub dead-append : deadOf (written heads n head end) (n + 1) ≡ deadOf heads n
   dead-append =
       let new = written heads n head end in
-      let live : deadAt new n ≡ 0 = dead-live new n (ap (λ (x : ℕ). x % 2) (written-head heads n head end room) ∙ even) in
+      let live : deadAt new n ≡ 0 = dead-live new n (ap (λ (x : ℕ). x % 2) (written-id heads n head end room) ∙ even) in
       ap (deadOf new) (add-one n) ∙ omega (arith, dead-suc new n, live, dead-same heads new n before)
 
 -- One clause is deleted.
-module _ (heads : List ℕ) (k : ℕ) (room : 2 * k < length heads) (is-live : idAt heads k % 2 ≡ 0) where
+module _ (heads : List ℕ) (k : ℕ) (room : 3 * k < length heads) (is-live : idAt heads k % 2 ≡ 0) where
   abbrev without : List ℕ
-  without = set heads (2 * k) (idAt heads k + 1)
-
-  kept : (j : ℕ) → (j ≡ 2 * k → ⊥) → getD without j 0 ≡ getD heads j 0
-  kept j d = getD-set-other heads (2 * k) j (idAt heads k + 1) 0 d
-
-  pub same-start : (j : ℕ) → startAt without j ≡ startAt heads j
-  same-start j = kept (2 * j + 1) (λ e. omega arith)
+  without = marked heads k
 
   now-dead : deadAt without k ≡ startAt heads (k + 1) - startAt heads k + 1
   now-dead =
-      let odd : idAt without k ≡ idAt heads k + 1 = getD-set-same heads (2 * k) (idAt heads k + 1) 0 room in
-      dead-deleted without k (λ e. omega arith) ∙ rw (same-start k, same-start (k + 1))
+      let odd : idAt without k ≡ idAt heads k + 1 = marked-id heads k room in
+      dead-deleted without k (λ e. omega arith) ∙ rw (marked-starts heads k k, marked-starts heads k (k + 1))
 
   other : (j : ℕ) → (j ≡ k → ⊥) → deadAt without j ≡ deadAt heads j
-  other j d = dead-at-same heads without j (kept (2 * j) (λ e. d (omega arith))) (same-start j) (same-start (j + 1))
+  other j d = dead-at-same heads without j (marked-ids heads k j d) (marked-starts heads k j) (marked-starts heads k (j + 1))
 
   pub dead-more : (n : ℕ) → k < n → deadOf without n ≡ deadOf heads n + (startAt heads (k + 1) - startAt heads k + 1)
   dead-more zero h = absurd (omega arith)

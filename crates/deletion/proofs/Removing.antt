@@ -6,34 +6,35 @@ use mathlib.Core.List.{List, [], _∷_, map}
 use mathlib.Core.Option.{none, some}
 use native.Mathlib.Omega.{arith}
 use native.Mathlib.Numerals.{add-one}
-use lib.ListN.{length, getD, set, take, drop, length-set, drop-of-length-le}
+use lib.ListN.{length, getD, take, drop, drop-of-length-le}
 use lib.Pow.{pow-mono}
 use lib.Seq.{drop-cons, getD-take, length-take-le}
 use Rattle.meaning.specs.Meaning.{Clause}
 use Rattle.rules.specs.Judging.{Live, State, refused, goesOn, deletionNotLive, find, remove, judgeDeletion}
 use Rattle.clauses.specs.Codes.{half}
 use Rattle.clauses.specs.Counting.{full, Reaches, Counts}
-use Rattle.clauses.specs.Store.{idAt, startAt, liveOf, clauseAt, Store, Holds}
+use Rattle.clauses.specs.Store.{idAt, startAt, marked, liveOf, clauseAt, Store, Holds}
 use Rattle.clauses.specs.Finding.{Searchable, FoundIn, AtMostHalvings, turnsOf}
 use Rattle.clauses.specs.declared.Found.{Found}
 use Rattle.clauses.specs.declared.Found.the-variants.{At, Nowhere}
 use Rattle.clauses.proofs.Numbers.{cut}
+use Rattle.clauses.proofs.Heads.{marked-long, marked-starts}
 use Rattle.clauses.proofs.Counting.{reaches-less}
 use Rattle.clauses.proofs.Holding.{store-searchable, holds-found, holds-lacks, holds-delete}
 use Rattle.deletion.specs.Deleting.{Headed, deadOf, Removable, Deletable, OneTaken, Gone, Missing, OneCase, DeletesOne, Counted, stateOf, AllGone, OneMissing}
 use Rattle.deletion.specs.declared.Deleted.{Deleted}
 use Rattle.deletion.specs.declared.Deleted.the-variants.{Done, NotLive}
-use Rattle.deletion.proofs.Leavings.{dead-below, dead-more, same-start}
+use Rattle.deletion.proofs.Leavings.{dead-below, dead-more}
 
 -- The heads of a store are such heads.
 pub store-headed : (heads lits : List ℕ) (n used last : ℕ) → Store heads lits n used last → used < 2 ^ 63 → Headed heads n
 store-headed heads lits n used last s h = record { lits = lits; used = used; last = last; store = s; small = h }
 
 -- They stay so when a clause is deleted.
-headed-on : (heads : List ℕ) (n : ℕ) → Headed heads n → (k id : ℕ) → k < n → idAt heads k ≡ 2 * id → Headed (set heads (2 * k) (idAt heads k + 1)) n
+headed-on : (heads : List ℕ) (n : ℕ) → Headed heads n → (k id : ℕ) → k < n → idAt heads k ≡ 2 * id → Headed (marked heads k) n
 headed-on heads n h k id l e =
     let held : Holds heads (h .lits) n (h .used) (h .last) (liveOf heads (h .lits) n) = record { store = h .store; same = refl } in
-    store-headed (set heads (2 * k) (idAt heads k + 1)) (h .lits) n (h .used) (h .last)
+    store-headed (marked heads k) (h .lits) n (h .used) (h .last)
     (holds-delete heads (h .lits) n (h .used) (h .last) (liveOf heads (h .lits) n) held k id l e .store)
     (h .small)
 
@@ -67,16 +68,16 @@ module _ (heads : List ℕ) (n id dead : ℕ) (o : Deletable heads n id dead) wh
   removable : (place : ℕ) → length heads < 2 ^ 64 → place < n → idAt heads place ≡ 2 * id → Removable heads place dead
   removable place long within is-id =
       let store = o .headed .store in
-      let room : 2 * place < length heads = omega (arith, store .room) in
+      let room : 3 * place < length heads = omega (arith, store .room) in
       let is-live : idAt heads place % 2 ≡ 0 = omega arith in
-      let without = set heads (2 * place) (idAt heads place + 1) in
+      let without = marked heads place in
       let ordered : (k : ℕ) → k < n → startAt without k ≤ startAt without (k + 1) =
-      λ k l. rw (same-start heads place room is-live k, same-start heads place room is-live (k + 1)) (store .ordered k l) in
+      λ k l. rw (marked-starts heads place k, marked-starts heads place (k + 1)) (store .ordered k l) in
       record {
         room = omega (arith, store .room);
         is-live = is-live;
         ordered = store .ordered place within;
-        fits = omega (arith, o .below, o .headed .small, store .room, store .ends, dead-more heads place room is-live n within, dead-below without n ordered, same-start heads place room is-live n);
+        fits = omega (arith, o .below, o .headed .small, store .room, store .ends, dead-more heads place room is-live n within, dead-below without n ordered, marked-starts heads place n);
       }
 
   -- The lookup has answered.
@@ -91,7 +92,7 @@ module _ (heads : List ℕ) (n id dead : ℕ) (o : Deletable heads n id dead) wh
       pub at-spent : length heads < 2 ^ 64 → spent ≤ 63
       at-spent fits = spent-few spent fits (subst (λ (x : Found). AtMostHalvings n (turnsOf x)) e t)
 
-      pub at-gone : length heads < 2 ^ 64 → (heads′ : List ℕ) (dead′ turns turns′ : ℕ) → heads′ ≡ set heads (2 * place) (idAt heads place + 1)
+      pub at-gone : length heads < 2 ^ 64 → (heads′ : List ℕ) (dead′ turns turns′ : ℕ) → heads′ ≡ marked heads place
           → dead′ ≡ dead + (startAt heads (place + 1) - startAt heads place + 1) → Counts turns (1 + spent) turns′ → DeletesOne heads n id dead turns heads′ (Done dead′ turns′)
       at-gone fits heads′ dead′ turns turns′ a d c = record {
         case = record {
@@ -195,7 +196,7 @@ module _ (heads₀ : List ℕ) (n : ℕ) (all : List ℕ) (many : ℕ) (heads : 
           let place = gone .place in
           let store = t .headed .store in
           let dead-there = dead-more heads place (omega (arith, store .room, gone .within)) (omega (arith, gone .is-id)) n (gone .within) in
-          let same : deadOf heads′ n ≡ deadOf (set heads (2 * place) (idAt heads place + 1)) n = ap (λ (h : List ℕ). deadOf h n) (gone .after) in
+          let same : deadOf heads′ n ≡ deadOf (marked heads place) n = ap (λ (h : List ℕ). deadOf h n) (gone .after) in
           record {
             so-far = λ lits used last live held.
                 let left = t .so-far lits used last live held in
@@ -213,7 +214,7 @@ module _ (heads₀ : List ℕ) (n : ℕ) (all : List ℕ) (many : ℕ) (heads : 
               dead-more = omega (arith, same, dead-there, t .counted .dead-more, gone .count);
               at-least = one-more i turns turns′ (omega arith) (t .counted .at-least) (gone .taken .at-least);
               at-most = omega (arith, t .counted .at-most, gone .taken .at-most);
-              long = rw (gone .after, length-set) (t .counted .long);
+              long = rw (gone .after, marked-long heads place) (t .counted .long);
             };
           }
 
@@ -240,5 +241,5 @@ module _ (heads₀ : List ℕ) (n : ℕ) (all : List ℕ) (many : ℕ) (heads : 
 
 -- Lengths stay.
 pub one-long : (heads : List ℕ) (n id dead turns : ℕ) (heads′ : List ℕ) (r : Deleted) → DeletesOne heads n id dead turns heads′ r → length heads′ ≡ length heads
-one-long heads n id dead turns heads′ (Done dead′ turns′) d = rw (d .case .after, length-set)
+one-long heads n id dead turns heads′ (Done dead′ turns′) d = rw (d .case .after, marked-long heads (d .case .place))
 one-long heads n id dead turns heads′ (NotLive id′ dead′ turns′) d = ap length (d .case .after)

@@ -5,11 +5,11 @@ use mathlib.Core.Path.{_≡_}
 use mathlib.Core.Bool.{true, false}
 use mathlib.Core.List.{List, [], _∷_, map}
 use lib.Dec.{eqb}
-use lib.ListN.{length, set, take}
+use lib.ListN.{length, take}
 use Rattle.rules.specs.Judging.{Live, State, refused, goesOn, deletionNotLive, judgeDeletion}
 use Rattle.clauses.specs.Codes.{half}
 use Rattle.clauses.specs.Counting.{Reaches}
-use Rattle.clauses.specs.Store.{idAt, startAt, Store, Holds}
+use Rattle.clauses.specs.Store.{idAt, startAt, RoomFor, marked, Store, Holds}
 use Rattle.deletion.specs.declared.Deleted.{Deleted}
 use Rattle.deletion.specs.declared.Deleted.the-variants.{Done, NotLive}
 
@@ -38,7 +38,7 @@ deadOf heads (suc n) = deadOf heads n + deadAt heads n
 
 -- The k-th clause is live, and what it takes can be added to `dead`.
 pub record Removable (heads : List ℕ) (k dead : ℕ) : Type 0 where
-  pub room : 2 * k + 3 < length heads
+  pub room : RoomFor heads (k + 1)
   pub is-live : idAt heads k % 2 ≡ 0
   pub ordered : startAt heads k ≤ startAt heads (k + 1)
   pub fits : dead + (startAt heads (k + 1) - startAt heads k + 1) < 2 ^ 64
@@ -59,7 +59,7 @@ pub record Gone (heads : List ℕ) (n id dead turns : ℕ) (heads′ : List ℕ)
   pub place : ℕ
   pub within : place < n
   pub is-id : idAt heads place ≡ 2 * id
-  pub after : heads′ ≡ set heads (2 * place) (idAt heads place + 1)
+  pub after : heads′ ≡ marked heads place
   pub count : dead′ ≡ dead + (startAt heads (place + 1) - startAt heads place + 1)
   pub taken : OneTaken turns turns′
 

@@ -5,7 +5,7 @@ use clauses::Found;
 ghost use mathlib.Core.Path.{_≡_};
 ghost use Prim.Native.Nat.{_+_, _-_, _*_, _<_, _≤_};
 ghost use lib.ListN.{length, set};
-ghost use Rattle.clauses.specs.Store.{idAt, startAt};
+ghost use Rattle.clauses.specs.Store.{startAt, marked};
 ghost use Rattle.deletion.specs.Deleting.{Headed, Removable, Deletable, DeletesOne, Deletes};
 
 // What a deletion came to: all ids were live; or this one was not. `dead` is one for each clause that was deleted before that and
@@ -16,20 +16,20 @@ pub enum Deleted {
 }
 
 // Deletes the `k`-th clause, which is live, and adds one and the number of its literals to `dead`.
-fn remove(heads: &mut [u64], k: usize, dead: usize) -> usize
+fn remove(heads: &mut [u32], k: usize, dead: usize) -> usize
     requires { ⌜ Removable (now heads) k dead ⌝ }
-    ensures after { λ _. ⌜ now (heads .exit) ≡ set (now (heads .entry)) (2 * k) (idAt (now (heads .entry)) k + 1) ⌝ }
+    ensures after { λ _. ⌜ now (heads .exit) ≡ marked (now (heads .entry)) k ⌝ }
     ensures count { λ r. ⌜ r ≡ dead + (startAt (now (heads .entry)) (k + 1) - startAt (now (heads .entry)) k + 1) ⌝ }
 {
-    let from = clauses::index(heads[2 * k + 1]);
-    let end = clauses::index(heads[2 * (k + 1) + 1]);
+    let from = clauses::start_at(heads, k);
+    let end = clauses::start_at(heads, k + 1);
     clauses::delete(heads, k);
     dead + ((end - from) + 1)
 }
 
 // Deletes the clause `id`, if it is live. `dead` and `turns` are counted on.
 fn delete_one(
-    heads: &mut [u64],
+    heads: &mut [u32],
     n: usize,
     guess: &[u32],
     id: u64,
@@ -60,7 +60,7 @@ fn delete_one(
 }
 
 // Deletes the clauses whose ids the first `many` of `ids` stand for, in order, up to the first that is not live.
-pub fn delete_all(heads: &mut [u64], n: usize, guess: &[u32], ids: &[u32], many: usize) -> Deleted
+pub fn delete_all(heads: &mut [u32], n: usize, guess: &[u32], ids: &[u32], many: usize) -> Deleted
     requires { ⌜ Headed (now heads) n ⌝ }
     requires { ⌜ many ≤ length (now ids) ⌝ }
     ensures { λ r. ⌜ Deletes (now (heads .entry)) n (now (ids .entry)) many (now (heads .exit)) r ⌝ }

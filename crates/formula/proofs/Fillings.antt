@@ -8,7 +8,7 @@ use mathlib.Core.Option.{Option, none, some}
 use native.Mathlib.Omega.{arith}
 use borrow.Author.Tests.{ltb-true, ltb-false}
 use lib.Dec.{ltb}
-use lib.ListN.{length, take, drop, getD, set, length-append, length-set, length-drop, length-map, List·getD-append}
+use lib.ListN.{length, take, drop, getD, length-append, length-drop, length-map, List·getD-append}
 use lib.Seq.{slice, getD-take, take-at, drop-at, length-take-le, getD-append-add, take-append-add}
 use Rattle.meaning.specs.Meaning.{Clause}
 use Rattle.meaning.proofs.Truth.{bool-cases}
@@ -18,7 +18,8 @@ use Rattle.rules.specs.Formula.{items, readClauses}
 use Rattle.rules.specs.Answers.{numbered}
 use Rattle.rules.proofs.Running.{items-count}
 use Rattle.clauses.specs.Codes.{literalOf}
-use Rattle.clauses.specs.Store.{Holds}
+use Rattle.clauses.specs.Store.{written, Holds}
+use Rattle.clauses.proofs.Heads.{written-long}
 use Rattle.clauses.proofs.Holding.{holds-append, holds-literals, numbered-more}
 use Rattle.formula.specs.Body.{Placed, AllBelow, ClauseDone, ClauseBad, ClauseLong, ClauseCase, ReadsClause, CloseCase, Closes, BodyDone, BodyBad, BodyLong}
 use Rattle.formula.specs.declared.body.ClauseRead.{ClauseRead}
@@ -208,11 +209,11 @@ module _ (v c : ℕ) (s : List ℕ) (at : ℕ) (heads₀ lits₀ heads lits : Li
           record {
             clauses = f .clauses ++ (clause ∷ []);
             many = rw length-append (omega (arith, f .many));
-            holds = rw (closed .1) (subst (Holds (set (set heads (2 * k) (2 * (k + 1))) (2 * k + 3) end) lits′ (k + 1) end (k + 1)) live held);
+            holds = rw (closed .1) (subst (Holds (written heads k (2 * (k + 1)) end) lits′ (k + 1) end (k + 1)) live held);
             below = placed-below lits used (done .new) lits′ end fit (done .placed) (2 * v + 2) (done .below) (f .below);
             left = f .left ∙ rw one-more (afore-more v (c - (k + 1)) (tokens (drop i s)) (tokens (drop next s)) (f .clauses) clause (done .is));
             few = omega (arith, f .few, fewer, done .placed .count);
-            heads-long = rw (closed .1, length-set, length-set) (f .heads-long);
+            heads-long = rw (closed .1, written-long heads k (2 * (k + 1)) end) (f .heads-long);
             lits-long = long ∙ f .lits-long;
             later = omega (arith, f .later, done .later);
             within = done .within;
@@ -227,5 +228,5 @@ reads-long v s at before used after (Unreadable next end) h r = placed-length be
 reads-long v s at before used after (TooShort next end) h r = placed-length before used (r .case .new) after end h (r .case .placed)
 
 pub closes-long : (before : List ℕ) (k end : ℕ) (after : List ℕ) (b : Bool) → Closes before k end after b → length after ≡ length before
-closes-long before k end after true r = rw (r .case .1, length-set, length-set)
+closes-long before k end after true r = rw (r .case .1, written-long before k (2 * (k + 1)) end)
 closes-long before k end after false r = rw (r .case .1)

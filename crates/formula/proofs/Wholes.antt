@@ -6,8 +6,7 @@ use mathlib.Core.Bool.{Bool, true, false}
 use mathlib.Core.List.{List, [], _∷_}
 use mathlib.Core.Option.{Option, none, some}
 use native.Mathlib.Omega.{arith}
-use lib.ListN.{length, take, drop, set, length-set, length-drop, drop-of-length-le}
-use lib.Seq.{getD-set-same}
+use lib.ListN.{length, take, drop, length-drop, drop-of-length-le}
 use Rattle.meaning.specs.Meaning.{Clause, Formula}
 use Rattle.meaning.proofs.Truth.{clash}
 use Rattle.rules.specs.Tools.{_>>=_}
@@ -20,8 +19,6 @@ use Rattle.text.specs.Scan.{Scans}
 use Rattle.text.specs.declared.Token.{Token as Found}
 use Rattle.text.specs.declared.Token.the-variants.{Nought, Plus, Minus, LetterD, Other, Nothing}
 use Rattle.text.proofs.Tokens.{scanned-nothing, scanned-token}
-use Rattle.clauses.specs.Store.{Holds}
-use Rattle.clauses.proofs.Holding.{holds-empty}
 use Rattle.clauses.proofs.Parts.{part-slice}
 use Rattle.formula.specs.Opening.{AfterComments, FirstAt, headerOf}
 use Rattle.formula.specs.Body.{BodyDone, BodyBad, BodyLong, BodyCase, ReadsBody, greatest}
@@ -60,12 +57,6 @@ behind-end s line h l =
 pub behind-feed : (s : List ℕ) (line : ℕ) → line < length s → Behind s line (line + 1)
 behind-feed s line h = record { same = refl; later = omega arith; within = omega arith }
 
-pub begun : (heads heads′ lits : List ℕ) → heads′ ≡ set heads 1 0 → 2 ≤ length heads → Holds heads′ lits 0 0 0 []
-begun heads heads′ lits e h = rw e (holds-empty (set heads 1 0) lits 0 (rw length-set h) (getD-set-same heads 1 0 0 (omega arith)))
-
-pub begun-long : (heads heads′ : List ℕ) → heads′ ≡ set heads 1 0 → length heads′ ≡ length heads
-begun-long heads heads′ e = rw (e, length-set)
-
 pub finish-bad : (s : List ℕ) (next v c used : ℕ) (lits : List ℕ) (b : Bool) → Ended (tokens (drop next s)) b → b ≡ false → Finishes s next v c used lits (Unreadable next used c)
 finish-bad s next v c used lits b e q = record { case = (subst (EndedCase (tokens (drop next s))) q (e .case), refl, refl, refl) }
 
@@ -90,7 +81,7 @@ rest-none : (v c : ℕ) (ts : List Token) → readClauses v c ts ≡ none → re
 unfolding restOf
 rest-none v c ts e = rw e
 
-pub rest-short : (v c : ℕ) (s : List ℕ) (line : ℕ) (heads₀ lits₀ heads lits : List ℕ) → line ≤ length s → length heads₀ < 2 → ReadsRest v c s line heads₀ lits₀ heads lits (TooShort line 0 0)
+pub rest-short : (v c : ℕ) (s : List ℕ) (line : ℕ) (heads₀ lits₀ heads lits : List ℕ) → line ≤ length s → length heads₀ < 3 → ReadsRest v c s line heads₀ lits₀ heads lits (TooShort line 0 0)
 rest-short v c s line heads₀ lits₀ heads lits l h = record { case = record { short = inr (omega arith); within = l; few = omega arith } }
 
 module _ (v c : ℕ) (s : List ℕ) (line at : ℕ) (b : Behind s line at) (heads₀ lits₀ : List ℕ) where

@@ -6,7 +6,7 @@ use mathlib.Core.Bool.{Bool, true, false}
 use mathlib.Core.List.{List, [], _∷_, _++_, map}
 use mathlib.Core.Option.{none, some}
 use lib.Dec.{leb}
-use lib.ListN.{length, getD, take, drop, set}
+use lib.ListN.{length, getD, take, drop}
 use Rattle.meaning.specs.Meaning.{Clause}
 use Rattle.rules.specs.Text.{tokens, literal}
 use Rattle.rules.specs.Formula.{items, readClauses}
@@ -14,7 +14,7 @@ use Rattle.rules.specs.Answers.{numbered}
 use Rattle.text.specs.declared.Token.{Token}
 use Rattle.text.specs.declared.Token.the-variants.{Nought, Plus, Minus, LetterD, Other, Nothing}
 use Rattle.clauses.specs.Codes.{literalOf}
-use Rattle.clauses.specs.Store.{Holds}
+use Rattle.clauses.specs.Store.{RoomFor, written, Holds}
 use Rattle.formula.specs.declared.body.Item.{Item}
 use Rattle.formula.specs.declared.body.Item.the-variants.{Literal, End, Wrong}
 use Rattle.formula.specs.declared.body.ClauseRead.{ClauseRead}
@@ -80,8 +80,8 @@ pub record ReadsClause (v : ℕ) (s : List ℕ) (at : ℕ) (before : List ℕ) (
 
 -- The clause that ends at `end` was closed as the k-th, or there was no room for it and nothing was changed.
 abbrev pub CloseCase : List ℕ → ℕ → ℕ → List ℕ → Bool → Type 0
-CloseCase before k end after true = (2 * k + 3 < length before) × (after ≡ set (set before (2 * k) (2 * (k + 1))) (2 * k + 3) end)
-CloseCase before k end after false = (length before ≤ 2 * k + 3) × (after ≡ before)
+CloseCase before k end after true = RoomFor before (k + 1) × (after ≡ written before k (2 * (k + 1)) end)
+CloseCase before k end after false = (length before ≤ 3 * k + 5) × (after ≡ before)
 
 pub record Closes (before : List ℕ) (k end : ℕ) (after : List ℕ) (r : Bool) : Type 0 where
   pub case : CloseCase before k end after r
@@ -105,7 +105,7 @@ pub record BodyBad (v c : ℕ) (s : List ℕ) (at next used closed : ℕ) : Type
 
 -- One of the two parts is shorter than the tokens of the text ask for.
 pub record BodyLong (s : List ℕ) (at : ℕ) (heads lits : List ℕ) (next used closed : ℕ) : Type 0 where
-  pub short : (length lits < length (tokens (drop at s))) ⊎ (length heads < 2 * length (tokens (drop at s)) + 2)
+  pub short : (length lits < length (tokens (drop at s))) ⊎ (length heads < 3 * length (tokens (drop at s)) + 3)
   pub few : used + closed ≤ length (tokens (drop at s))
   pub later : at ≤ next
   pub within : next ≤ length s

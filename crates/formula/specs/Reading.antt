@@ -67,7 +67,7 @@ pub record IsUnreadable (o : Option Formula) (s : List ℕ) (at used closed : �
 
 -- One of the two parts is too short for some text of this length.
 pub record IsTooShort (s : List ℕ) (heads lits : List ℕ) (at used closed : ℕ) : Type 0 where
-  pub short : (2 * length lits < length s + 1) ⊎ (length heads < length s + 3)
+  pub short : (2 * length lits < length s + 1) ⊎ (2 * length heads < 3 * length s + 9)
   pub within : at ≤ length s
   pub few : 2 * (used + closed) ≤ length s + 1
 

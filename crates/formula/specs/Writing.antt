@@ -40,7 +40,7 @@ pub record Spelled (s : List ℕ) (P : Formula → Type 0) : Type 0 where
 abbrev pub WriteCase : List ℕ → List ℕ → List ℕ → List ℕ → List ℕ → FormulaWritten → Type 0
 WriteCase s heads lits before after (Whole n) = Spelled s (λ F. IsWritten F before after n)
 WriteCase s heads lits before after (Unreadable at) = (readFormula s ≡ none) × (after ≡ before)
-WriteCase s heads lits before after (StoreTooShort at) = ((2 * length lits < length s + 1) ⊎ (length heads < length s + 3)) × (after ≡ before)
+WriteCase s heads lits before after (StoreTooShort at) = ((2 * length lits < length s + 1) ⊎ (2 * length heads < 3 * length s + 9)) × (after ≡ before)
 WriteCase s heads lits before after OutputTooShort = Spelled s (λ F. IsTooLong F before after)
 
 pub record Writes (s : List ℕ) (heads lits before after : List ℕ) (r : FormulaWritten) : Type 0 where

@@ -18,14 +18,6 @@ pub enum Item {
     Wrong,
 }
 
-// A code, as the slices hold it.
-pub fn narrow(x: u64) -> u32
-    requires { ⌜ x < 2 ^ 32 ⌝ }
-    ensures { λ r. ⌜ r ≡ x ⌝ }
-{
-    x as u32
-}
-
 // What a token says in a clause over variables up to `vars`. Hints and ids of a proof have codes of the same kind.
 pub fn item_of(t: Token, vars: u64) -> Item
     requires { ⌜ vars < 2 ^ 31 ⌝ }
@@ -37,13 +29,13 @@ pub fn item_of(t: Token, vars: u64) -> Item
             if vars < v {
                 return Item::Wrong;
             }
-            Item::Literal(narrow(2 * v))
+            Item::Literal(clauses::narrow(2 * v))
         }
         Token::Minus(v) => {
             if vars < v {
                 return Item::Wrong;
             }
-            Item::Literal(narrow(2 * v + 1))
+            Item::Literal(clauses::narrow(2 * v + 1))
         }
         Token::LetterD => Item::Wrong,
         Token::Other => Item::Wrong,
@@ -119,11 +111,11 @@ pub enum BodyRead {
 }
 
 // The clause that ends at `end` becomes the `k`-th, with the id k + 1, if there is room for it.
-fn close(heads: &mut [u64], k: usize, end: usize) -> bool
+fn close(heads: &mut [u32], k: usize, end: usize) -> bool
     requires { ⌜ k < maxClauses ⌝ }
     ensures { λ r. ⌜ Closes (now (heads .entry)) k end (now (heads .exit)) r ⌝ }
 {
-    if heads.len() <= 2 * k + 3 {
+    if heads.len() <= 3 * k + 5 {
         return false;
     }
     clauses::append(heads, k, clauses::count(k + 1), end);
@@ -136,7 +128,7 @@ pub fn read_clauses(
     at: usize,
     vars: u64,
     many: usize,
-    heads: &mut [u64],
+    heads: &mut [u32],
     lits: &mut [u32],
 ) -> BodyRead
     requires { ⌜ at ≤ length (now s) ⌝ }

@@ -12,7 +12,7 @@ use text::Token;
 use writer::Fit;
 ghost use mathlib.Core.Path.{_≡_};
 ghost use Prim.Native.Nat.{_+_, _<_, _≤_};
-ghost use lib.ListN.{length, drop, set};
+ghost use lib.ListN.{length, drop};
 ghost use Rattle.rules.specs.Limits.{maxVariable, maxClauses};
 ghost use Rattle.rules.specs.Text.{tokens};
 ghost use Rattle.writer.specs.Text.{Formed, formulaOf};
@@ -67,14 +67,6 @@ fn behind(s: &[u8], feed: usize) -> usize
     feed + 1
 }
 
-// The store becomes empty.
-fn begin(heads: &mut [u64])
-    requires { ⌜ 2 ≤ length (now heads) ⌝ }
-    ensures { λ _. ⌜ now (heads .exit) ≡ set (now (heads .entry)) 1 0 ⌝ }
-{
-    heads[1] = 0;
-}
-
 // All clauses are read; behind the last one there have to be blanks alone.
 fn finish(s: &[u8], next: usize, vars: u64, many: usize, used: usize, lits: &[u32]) -> FormulaRead
     requires { ⌜ used ≤ length (now lits) ⌝ }
@@ -102,21 +94,21 @@ fn read_rest(
     feed: usize,
     vars: u64,
     many: u64,
-    heads: &mut [u64],
+    heads: &mut [u32],
     lits: &mut [u32],
 ) -> FormulaRead
     requires { ⌜ feed ≤ length (now s) ⌝ }
     requires { ⌜ (vars ≤ maxVariable) × (many ≤ maxClauses) ⌝ }
     ensures { λ r. ⌜ ReadsRest vars many (now (s .entry)) feed (now (heads .entry)) (now (lits .entry)) (now (heads .exit)) (now (lits .exit)) r ⌝ }
 {
-    if heads.len() < 2 {
+    if heads.len() < 3 {
         return FormulaRead::TooShort {
             at: feed,
             used: 0,
             closed: 0,
         };
     }
-    begin(heads);
+    clauses::begin(heads);
     let at = behind(s, feed);
     let c = clauses::index(many);
     let r = body::read_clauses(s, at, vars, c, heads, lits);
@@ -136,7 +128,7 @@ fn read_rest(
 }
 
 // Reads a formula into the store.
-pub fn read(formula: &[u8], heads: &mut [u64], lits: &mut [u32]) -> FormulaRead
+pub fn read(formula: &[u8], heads: &mut [u32], lits: &mut [u32]) -> FormulaRead
     ensures { λ r. ⌜ Reads (now (formula .entry)) (now (heads .entry)) (now (lits .entry)) (now (heads .exit)) (now (lits .exit)) r ⌝ }
 {
     let start = opening::after_comments(formula);
@@ -161,7 +153,7 @@ pub enum FormulaWritten {
 }
 
 // The formula that lies in the store goes to the output, if it fits; else the output stays as it was.
-fn write_stored(heads: &[u64], lits: &[u32], n: usize, vars: u64, out: &mut [u8]) -> FormulaWritten
+fn write_stored(heads: &[u32], lits: &[u32], n: usize, vars: u64, out: &mut [u8]) -> FormulaWritten
     requires { ⌜ Formed (now heads) (now lits) n ⌝ }
     ensures { λ r. ⌜ WritesStored (formulaOf (now (heads .entry)) (now (lits .entry)) n vars) (now (out .entry)) (now (out .exit)) r ⌝ }
 {
@@ -176,7 +168,7 @@ fn write_stored(heads: &[u64], lits: &[u32], n: usize, vars: u64, out: &mut [u8]
 }
 
 // Reads a formula and writes it out: one clause to a line, no comments.
-pub fn write(formula: &[u8], heads: &mut [u64], lits: &mut [u32], out: &mut [u8]) -> FormulaWritten
+pub fn write(formula: &[u8], heads: &mut [u32], lits: &mut [u32], out: &mut [u8]) -> FormulaWritten
     ensures { λ r. ⌜ Writes (now (formula .entry)) (now (heads .entry)) (now (lits .entry)) (now (out .entry)) (now (out .exit)) r ⌝ }
 {
     let r = read(formula, heads, lits);

@@ -9,7 +9,6 @@ ghost use lib.Dec.{eqb};
 ghost use lib.ListN.{length};
 ghost use Rattle.rules.specs.Judging.{among};
 ghost use Rattle.clauses.specs.Codes.{literalOf};
-ghost use Rattle.clauses.specs.Store.{startAt};
 ghost use Rattle.clauses.specs.Moving.{Stored};
 ghost use Rattle.groups.specs.Matching.{NextGroup, GroupAt, Placed, Examined, TakesGroup, literalsAt, Passes, Finishes, Matches};
 
@@ -69,28 +68,19 @@ pub fn next_group(hints: &[u32], from: usize) -> usize
     i
 }
 
-// Where the literals of the k-th clause begin.
-fn start(heads: &[u64], k: usize) -> usize
-    requires { ⌜ 2 * k + 1 < length (now heads) ⌝ }
-    ensures { λ r. ⌜ r ≡ startAt (now (heads .entry)) k ⌝ }
-{
-    let at = 2 * k + 1;
-    clauses::index(heads[at])
-}
-
 // Whether the k-th clause is live and contains the literal q. The literals of a deleted clause are not looked at.
-fn examine(heads: &[u64], lits: &[u32], k: usize, q: u32) -> Candidate
+fn examine(heads: &[u32], lits: &[u32], k: usize, q: u32) -> Candidate
     requires { ⌜ Placed (now heads) (now lits) k ⌝ }
     ensures { λ r. ⌜ Examined (now (heads .entry)) (now (lits .entry)) k q (r .has) (r .literals) ⌝ }
 {
-    if heads[2 * k] % 2 != 0 {
+    if clauses::head_at(heads, k) % 2 != 0 {
         return Candidate {
             has: false,
             literals: 0,
         };
     }
-    let from = start(heads, k);
-    let end = start(heads, k + 1);
+    let from = clauses::start_at(heads, k);
+    let end = clauses::start_at(heads, k + 1);
     let has = contains(&lits[from..end], q);
     let literals = clauses::count(end - from);
     Candidate {
@@ -134,7 +124,7 @@ fn take_group(id: u64, hints: &[u32], at: usize, turns: u64) -> Passed
 
 // The k-th clause: if it is live and contains q, the next group must be its group.
 fn pass(
-    heads: &[u64],
+    heads: &[u32],
     lits: &[u32],
     k: usize,
     hints: &[u32],
@@ -150,7 +140,7 @@ fn pass(
     let candidate = examine(heads, lits, k, q);
     let more = turns + 1 + candidate.literals;
     if candidate.has {
-        return take_group(heads[2 * k] / 2, hints, at, more);
+        return take_group(clauses::head_at(heads, k) / 2, hints, at, more);
     }
     Passed::On {
         at: at,
@@ -175,7 +165,7 @@ fn finish(hints: &[u32], at: usize, turns: u64) -> Matched
 // Whether the groups of the hints, of which the first begins at `from`, are those of the live clauses that contain q. Counts a
 // turn for each clause, for each literal of a live clause, and for each hint from `from` on that is passed.
 pub fn match_groups(
-    heads: &[u64],
+    heads: &[u32],
     lits: &[u32],
     n: usize,
     hints: &[u32],

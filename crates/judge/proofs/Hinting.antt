@@ -10,7 +10,7 @@ use lib.Seq.{slice, length-slice, getD-drop, getD-take}
 use lib.Pow.{pow-mono, pow-add}
 use Rattle.rules.specs.Judging.{lookAt}
 use Rattle.clauses.specs.Codes.{literalOf, half}
-use Rattle.clauses.specs.Store.{idAt, startAt, clauseAt, liveOf, Holds}
+use Rattle.clauses.specs.Store.{idAt, startAt, RoomFor, clauseAt, liveOf, Holds}
 use Rattle.clauses.proofs.Parts.{part-slice}
 use Rattle.clauses.specs.Finding.{Searchable, Peeked, FoundIn, turnsOf, AtMostHalvings}
 use Rattle.clauses.specs.declared.Found.{Found}
@@ -57,7 +57,7 @@ module _ (heads lits : List ℕ) (n : ℕ) (marks : List ℕ) (ready : Ready hea
   pub ready-searchable : (id : ℕ) → id < 2 ^ 60 → Searchable heads n id
   ready-searchable id h = store-searchable heads lits n (ready .used) (ready .last) (ready .store) id h
 
-  pub ready-room : 2 * n < length heads
+  pub ready-room : RoomFor heads n
   ready-room = omega (arith, ready .store .room)
 
   module _ (place : ℕ) (h : place < n) where

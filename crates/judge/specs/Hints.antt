@@ -9,7 +9,7 @@ use lib.Seq.{slice}
 use Rattle.meaning.specs.Meaning.{Clause}
 use Rattle.rules.specs.Judging.{Live, find, hintNotLive, hintNotForced, Trail, Look, allFalse, forces, neither, lookAt, Taken, conflict, badHint, hintsEnd, takeHints}
 use Rattle.clauses.specs.Codes.{literalOf, oppositeCode, half}
-use Rattle.clauses.specs.Store.{startAt, liveOf, Store}
+use Rattle.clauses.specs.Store.{startAt, RoomFor, liveOf, Store}
 use Rattle.clauses.specs.Finding.{Peeked, AtMostHalvings}
 use Rattle.clauses.specs.Counting.{Reaches}
 use Rattle.assignment.specs.Marks.{Shows, Paired, Marked, Laid}
@@ -39,7 +39,7 @@ shownOf SightNeither = Neither
 
 -- What a look at the clause at a place asks for.
 pub record Lookable (heads lits marks : List ℕ) (place : ℕ) : Type 0 where
-  pub room : 2 * (place + 1) + 1 < length heads
+  pub room : RoomFor heads (place + 1)
   pub forward : startAt heads place ≤ startAt heads (place + 1)
   pub inside : startAt heads (place + 1) ≤ length lits
   pub known : Marked (slice (startAt heads place) (startAt heads (place + 1)) lits) marks

@@ -11,7 +11,7 @@ use clauses::Found;
 ghost use mathlib.Core.Path.{_≡_};
 ghost use Prim.Native.Nat.{_*_, _<_, _≤_, _^_};
 ghost use lib.ListN.{length};
-ghost use Rattle.clauses.specs.Store.{liveOf};
+ghost use Rattle.clauses.specs.Store.{RoomFor, liveOf};
 ghost use Rattle.clauses.specs.Finding.{Peeked};
 ghost use Rattle.judge.specs.Hints.{Ready, shownOf, Lookable, LooksAt, Hints, Forcible, ForcesOne, TakesOne, idsIn, Ahead, stopsAt, howBy, Span, Takes};
 
@@ -41,13 +41,13 @@ fn shown_by(l: Look) -> Shown
 }
 
 // Looks at the clause at a place of the store, behind a search of so many turns.
-fn look_there(heads: &[u64], lits: &[u32], marks: &[u8], place: usize, turns: u64) -> Hinted
+fn look_there(heads: &[u32], lits: &[u32], marks: &[u8], place: usize, turns: u64) -> Hinted
     requires { ⌜ Lookable (now heads) (now lits) (now marks) place ⌝ }
     requires { ⌜ turns < 64 ⌝ }
     ensures { λ r. ⌜ LooksAt (now (heads .entry)) (now (lits .entry)) (now (marks .entry)) place turns (r .shown) (r .turns) ⌝ }
 {
-    let start = clauses::index(heads[2 * place + 1]);
-    let end = clauses::index(heads[2 * (place + 1) + 1]);
+    let start = clauses::start_at(heads, place);
+    let end = clauses::start_at(heads, place + 1);
     let l = assignment::look_at(&lits[start..end], marks);
     let s = shown_by(l);
     let all = turns + clauses::count(end - start);
@@ -58,7 +58,7 @@ fn look_there(heads: &[u64], lits: &[u32], marks: &[u8], place: usize, turns: u6
 }
 
 // What the hint `id` shows, behind a peek that came to `place`.
-pub fn hint(heads: &[u64], n: usize, place: usize, lits: &[u32], marks: &[u8], id: u64) -> Hinted
+pub fn hint(heads: &[u32], n: usize, place: usize, lits: &[u32], marks: &[u8], id: u64) -> Hinted
     requires { ⌜ Ready (now heads) (now lits) n (now marks) ⌝ }
     requires { ⌜ id < 2 ^ 60 ⌝ }
     requires { ⌜ Peeked (now heads) n id place ⌝ }
@@ -114,7 +114,7 @@ fn force(marks: &mut [u8], tape: &mut [u32], t: usize, x: u32, turns: u64) -> To
 
 // Takes the hint `id`, behind a peek that came to `place`.
 fn take_one(
-    heads: &[u64],
+    heads: &[u32],
     n: usize,
     place: usize,
     lits: &[u32],
@@ -211,8 +211,8 @@ fn guess_next(guess: &[u32], hints: &[u32], i: usize, to: usize) -> usize
 }
 
 // The place of the clause of the `i`-th hint, if it is the one guessed. Behind the last hint there is nothing to peek at.
-fn peek_next(heads: &[u64], n: usize, guessed: usize, hints: &[u32], i: usize, to: usize) -> usize
-    requires { ⌜ (2 * n < length (now heads)) × (to ≤ length (now hints)) ⌝ }
+fn peek_next(heads: &[u32], n: usize, guessed: usize, hints: &[u32], i: usize, to: usize) -> usize
+    requires { ⌜ RoomFor (now heads) n × (to ≤ length (now hints)) ⌝ }
     ensures { λ r. ⌜ Ahead (now (heads .entry)) n (now (hints .entry)) i to r ⌝ }
 {
     if i < to {
@@ -223,7 +223,7 @@ fn peek_next(heads: &[u64], n: usize, guessed: usize, hints: &[u32], i: usize, t
 
 // Takes the hints from `from` up to `to`, with `t` numbers on the tape.
 pub fn take_hints(
-    heads: &[u64],
+    heads: &[u32],
     n: usize,
     guess: &[u32],
     lits: &[u32],

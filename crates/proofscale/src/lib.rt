@@ -42,7 +42,7 @@ fn step_number(a: Answer) -> u64
 pub extern "C" fn proofscale_check(
     formula: &[u8],
     proof: &[u8],
-    heads: &mut [u64],
+    heads: &mut [u32],
     lits: &mut [u32],
     hints: &mut [u32],
     guess: &mut [u32],
@@ -93,7 +93,7 @@ fn written_length(w: FormulaWritten) -> u64
 #[no_mangle]
 pub extern "C" fn proofscale_write(
     formula: &[u8],
-    heads: &mut [u64],
+    heads: &mut [u32],
     lits: &mut [u32],
     out: &mut [u8],
     length: &mut u64,

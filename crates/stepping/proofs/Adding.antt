@@ -97,7 +97,7 @@ module _ (heads lits hints marks : List ℕ) (b : Between) (id end many : ℕ) (
 
   -- The clause becomes live.
   module _ (heads′ marks′ : List ℕ) (back : marks′ ≡ marks) (fault : additionFault (liveOf heads lits (b .n)) (b .last) id (clauseIn lits (b .used) end) (map hintOf (take many hints)) ≡ none)
-      (more : b .used < end) (room : 2 * b .n + 3 < length heads) (after : heads′ ≡ set (set heads (2 * b .n) (2 * id)) (2 * b .n + 3) end) where
+      (more : b .used < end) (room : RoomFor heads (b .n + 1)) (after : heads′ ≡ written heads (b .n) (2 * id) end) where
     more-holds : Holds heads′ lits (b .n + 1) end id (liveOf heads lits (b .n) ++ ((id, clauseIn lits (b .used) end) ∷ []))
     more-holds =
         rw after

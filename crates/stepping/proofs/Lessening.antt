@@ -51,7 +51,7 @@ back-turns heads lits b c heads′ lits′ r m noted turns e t =
 
 -- Deletions
 
-pub more-fits : (heads lits : List ℕ) (b : Between) (more : ℕ) → MoreDead heads lits b more → length heads * 8 < 2 ^ 63 → length lits * 4 < 2 ^ 63 → b .dead + more < 2 ^ 64
+pub more-fits : (heads lits : List ℕ) (b : Between) (more : ℕ) → MoreDead heads lits b more → length heads * 4 < 2 ^ 63 → length lits * 4 < 2 ^ 63 → b .dead + more < 2 ^ 64
 more-fits heads lits b more d h l =
     omega (arith, d .counted, dead-below heads (b .n) (d .store .ordered), d .store .ends, d .store .fits, d .store .room)
 

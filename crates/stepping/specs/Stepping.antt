@@ -5,13 +5,13 @@ use mathlib.Core.Path.{_≡_}
 use mathlib.Core.Logic.{_⊎_}
 use mathlib.Core.List.{List, [], map}
 use mathlib.Core.Option.{none, some}
-use lib.ListN.{length, getD, set, take, drop}
+use lib.ListN.{length, getD, take, drop}
 use Rattle.rules.specs.Text.{Token, tokens}
 use Rattle.rules.specs.Steps.{Step, add, delete, readStep}
 use Rattle.rules.specs.Judging.{Ground, deletionNotLive, State, refused, addsEmpty, goesOn, judge}
 use Rattle.clauses.specs.Codes.{hintOf, half}
 use Rattle.clauses.specs.Counting.{Reaches}
-use Rattle.clauses.specs.Store.{liveOf, Store}
+use Rattle.clauses.specs.Store.{RoomFor, written, liveOf, Store}
 use Rattle.assignment.specs.Marks.{Shows, Paired}
 use Rattle.deletion.specs.Deleting.{deadOf, stateOf}
 use Rattle.steps.specs.Reading.{BeginsStep, LargeIn}
@@ -65,14 +65,14 @@ pub record Spent (bytes codes more turns : ℕ) : Type 0 where
 -- A clause was accepted that is not empty, and became live.
 pub record Accepted (heads : List ℕ) (b : Between) (id end : ℕ) (heads′ : List ℕ) (b′ : Between) : Type 0 where
   pub more : b .used < end
-  pub room : 2 * b .n + 3 < length heads
-  pub after : heads′ ≡ set (set heads (2 * b .n) (2 * id)) (2 * b .n + 3) end
+  pub room : RoomFor heads (b .n + 1)
+  pub after : heads′ ≡ written heads (b .n) (2 * id) end
   pub is : b′ ≡ record { n = b .n + 1; used = end; last = id; dead = b .dead }
 
 -- There is no room for one more clause.
 pub record NoHead (heads : List ℕ) (b : Between) (end : ℕ) : Type 0 where
   pub more : b .used < end
-  pub short : length heads ≤ 2 * b .n + 3
+  pub short : length heads ≤ 3 * b .n + 5
 
 abbrev pub AcceptCase : List ℕ → Between → ℕ → ℕ → List ℕ → Outcome → Type 0
 AcceptCase heads b id end heads′ (On b′) = Accepted heads b id end heads′ b′
@@ -217,7 +217,7 @@ pub record TakenRefused (ts : List Token) (s : State) (g : Ground) : Type 0 wher
 pub record Lacks (heads lits hints tape : List ℕ) (cells n used : ℕ) (ts : List Token) : Type 0 where
   pub codes : ℕ
   pub step : BeginsStep ts codes
-  pub short : (length heads ≤ 2 * n + 3) ⊎ ((length lits ≤ used + codes) ⊎ ((length hints ≤ codes) ⊎ ((length tape < used + 2 * codes) ⊎ LargeIn cells ts)))
+  pub short : (length heads ≤ 3 * n + 5) ⊎ ((length lits ≤ used + codes) ⊎ ((length hints ≤ codes) ⊎ ((length tape < used + 2 * codes) ⊎ LargeIn cells ts)))
 
 -- Tokens are left that begin with no step.
 pub record TakenBad (ts : List Token) : Type 0 where

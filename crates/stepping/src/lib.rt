@@ -13,6 +13,7 @@ use steps::StepRead;
 ghost use mathlib.Core.Path.{_≡_};
 ghost use Prim.Native.Nat.{_+_, _-_, _*_, _<_, _≤_, _^_};
 ghost use lib.ListN.{length};
+ghost use Rattle.clauses.specs.Store.{RoomFor};
 ghost use Rattle.addition.specs.Addition.{allTurns};
 ghost use Rattle.stepping.specs.Stepping.{Spent, Accepts, AcceptsBy, Addable, Adds, Counted, GivesBack, MoreDead, GoesBack, Tight, Deletes, Keeps, TakesStep};
 
@@ -77,8 +78,8 @@ fn reading_and(bytes: usize, codes: usize, more: u64) -> u64
 }
 
 // The clause whose literals end at `end` was accepted under `id`: it becomes live, unless it is empty.
-fn accept(heads: &mut [u64], guess: &mut [u32], b: Between, id: u64, end: usize) -> Outcome
-    requires { ⌜ 2 * (b .n) + 1 < length (now heads) ⌝ }
+fn accept(heads: &mut [u32], guess: &mut [u32], b: Between, id: u64, end: usize) -> Outcome
+    requires { ⌜ RoomFor (now heads) (b .n) ⌝ }
     requires { ⌜ id < 2 ^ 60 ⌝ }
     ensures { λ r. ⌜ Accepts (now (heads .entry)) b id end (now (heads .exit)) r ⌝ }
 {
@@ -86,7 +87,7 @@ fn accept(heads: &mut [u64], guess: &mut [u32], b: Between, id: u64, end: usize)
         return Outcome::Verified;
     }
     let n = b.n;
-    if heads.len() <= 2 * n + 3 {
+    if heads.len() <= 3 * n + 5 {
         return Outcome::TooShort;
     }
     clauses::append(heads, n, id, end);
@@ -104,13 +105,13 @@ fn accept(heads: &mut [u64], guess: &mut [u32], b: Between, id: u64, end: usize)
 // The same, by the verdict.
 fn accept_by(
     v: Verdict,
-    heads: &mut [u64],
+    heads: &mut [u32],
     guess: &mut [u32],
     b: Between,
     id: u64,
     end: usize,
 ) -> Outcome
-    requires { ⌜ 2 * (b .n) + 1 < length (now heads) ⌝ }
+    requires { ⌜ RoomFor (now heads) (b .n) ⌝ }
     requires { ⌜ id < 2 ^ 60 ⌝ }
     ensures { λ r. ⌜ AcceptsBy v (now (heads .entry)) b id end (now (heads .exit)) r ⌝ }
 {
@@ -123,7 +124,7 @@ fn accept_by(
 
 // Judges the addition under `id` of the clause whose literals end at `end`, with the first `many` hints.
 fn add(
-    heads: &mut [u64],
+    heads: &mut [u32],
     lits: &[u32],
     hints: &[u32],
     guess: &mut [u32],
@@ -164,7 +165,7 @@ fn add(
 }
 
 // Gives the room of deleted clauses back, if they have more than half of all.
-fn give_back(heads: &mut [u64], lits: &mut [u32], guess: &mut [u32], b: Between) -> Returned
+fn give_back(heads: &mut [u32], lits: &mut [u32], guess: &mut [u32], b: Between) -> Returned
     requires { ⌜ Counted (now heads) (now lits) b ⌝ }
     ensures back { λ r. ⌜ GivesBack (now (heads .entry)) (now (lits .entry)) b (now (heads .exit)) (now (lits .exit)) (r .between) ⌝ }
     ensures turns { λ r. ⌜ r .turns ≤ 2 * (b .n + b .used) ⌝ }
@@ -194,7 +195,7 @@ fn give_back(heads: &mut [u64], lits: &mut [u32], guess: &mut [u32], b: Between)
 
 // The same, where clauses that take so much were deleted just now, which took so many turns.
 fn settle(
-    heads: &mut [u64],
+    heads: &mut [u32],
     lits: &mut [u32],
     guess: &mut [u32],
     b: Between,
@@ -223,7 +224,7 @@ fn settle(
 
 // Judges the deletion of the first `many` ids.
 fn delete(
-    heads: &mut [u64],
+    heads: &mut [u32],
     lits: &mut [u32],
     hints: &[u32],
     guess: &mut [u32],
@@ -248,7 +249,7 @@ fn delete(
 
 // An addition that was read, up to `next`, in so many bytes.
 fn take_addition(
-    heads: &mut [u64],
+    heads: &mut [u32],
     lits: &[u32],
     hints: &[u32],
     guess: &mut [u32],
@@ -279,7 +280,7 @@ fn take_addition(
 
 // A deletion that was read, up to `next`, in so many bytes.
 fn take_deletion(
-    heads: &mut [u64],
+    heads: &mut [u32],
     lits: &mut [u32],
     hints: &[u32],
     guess: &mut [u32],
@@ -323,7 +324,7 @@ pub fn take_step(
     proof: &[u8],
     at: usize,
     b: Between,
-    heads: &mut [u64],
+    heads: &mut [u32],
     lits: &mut [u32],
     hints: &mut [u32],
     guess: &mut [u32],

@@ -15,7 +15,6 @@ pub mod feeding;
 use feeding::Fed;
 use feeding::Kind;
 use feeding::Phase;
-use formula::body;
 use text::Token;
 ghost use mathlib.Core.Path.{_≡_};
 ghost use Prim.Native.Nat.{_<_, _≤_, _^_};
@@ -116,7 +115,7 @@ fn along(s: &[u8], from: usize, first: usize, limit: u64, slots: &mut [u32]) -> 
         if limit <= code {
             return Passed { next: i, end: end };
         }
-        slots[end] = body::narrow(code);
+        slots[end] = clauses::narrow(code);
         end += 1;
         i += clauses::index(r % 16);
     }

@@ -82,7 +82,7 @@ fn checked(
     formula: &[u8],
     proof: &[u8],
     expected: &[u8],
-    heads: &mut [u64],
+    heads: &mut [u32],
     lits: &mut [u32],
     hints: &mut [u32],
     guess: &mut [u32],

@@ -8,7 +8,7 @@ use lib.ListN.{length, take, drop}
 use Rattle.meaning.specs.Meaning.{Formula}
 use Rattle.rules.specs.Tools.{bytes}
 use Rattle.rules.specs.Written.{decimal, writeFormula}
-use Rattle.clauses.specs.Store.{startAt, clausesOf}
+use Rattle.clauses.specs.Store.{startAt, RoomFor, clausesOf}
 use Rattle.writer.specs.declared.Fit.{Fit}
 use Rattle.writer.specs.declared.Fit.the-variants.{Whole, TooLong}
 
@@ -36,13 +36,13 @@ pub record Filled (before : List ℕ) (at v end : ℕ) (after : List ℕ) (first
 
 -- The two slices hold n clauses: each begins where the one before ends, and the last ends within the literals.
 pub record Formed (heads lits : List ℕ) (n : ℕ) : Type 0 where
-  pub room : 2 * n + 1 < length heads
+  pub room : RoomFor heads n
   pub ordered : (k : ℕ) → k < n → startAt heads k ≤ startAt heads (k + 1)
   pub inside : startAt heads n ≤ length lits
 
 -- The k-th clause lies within the two slices.
 pub record Placed (heads lits : List ℕ) (k : ℕ) : Type 0 where
-  pub room : 2 * k + 3 < length heads
+  pub room : RoomFor heads (k + 1)
   pub ordered : startAt heads k ≤ startAt heads (k + 1)
   pub inside : startAt heads (k + 1) ≤ length lits
 

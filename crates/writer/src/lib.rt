@@ -14,7 +14,7 @@ ghost use Prim.Native.Nat.{_+_, _*_, _<_, _≤_, _^_};
 ghost use lib.ListN.{length};
 ghost use Rattle.rules.specs.Written.{decimal, writeLiteral, writeClause, writeClauses};
 ghost use Rattle.clauses.specs.Codes.{literalOf};
-ghost use Rattle.clauses.specs.Store.{startAt, clauseAt, clausesOf};
+ghost use Rattle.clauses.specs.Store.{clauseAt, clausesOf};
 ghost use Rattle.writer.specs.Text.{Sized, Room, Wrote, Filled, Formed, Placed, lineStart, firstLine, formulaOf, lengthOf, WroteCounted, WroteFormula, Measured, LineDigits, Answers};
 
 // Where a text ends that was written, and how many turns the loops made that wrote it.
@@ -140,34 +140,19 @@ fn write_clause(out: &mut [u8], at: usize, clause: &[u32]) -> Written
     }
 }
 
-fn index(x: u64) -> usize
-    ensures { λ r. ⌜ r ≡ x ⌝ }
-{
-    x as usize
-}
-
-// Where the literals of the k-th clause begin.
-fn start(heads: &[u64], k: usize) -> usize
-    requires { ⌜ 2 * k + 1 < length (now heads) ⌝ }
-    ensures { λ r. ⌜ r ≡ startAt (now (heads .entry)) k ⌝ }
-{
-    let at = 2 * k + 1;
-    index(heads[at])
-}
-
 // Writes the k-th clause of the store.
-fn write_stored(heads: &[u64], lits: &[u32], k: usize, out: &mut [u8], at: usize) -> Written
+fn write_stored(heads: &[u32], lits: &[u32], k: usize, out: &mut [u8], at: usize) -> Written
     requires { ⌜ Placed (now heads) (now lits) k ⌝ }
     requires { ⌜ Room (now out) at (writeClause (clauseAt (now heads) (now lits) k)) ⌝ }
     ensures { λ r. ⌜ WroteCounted (now (out .entry)) at (writeClause (clauseAt (now (heads .entry)) (now (lits .entry)) k)) (now (out .exit)) (r .end) 2 (r .turns) ⌝ }
 {
-    let from = start(heads, k);
-    let to = start(heads, k + 1);
+    let from = clauses::start_at(heads, k);
+    let to = clauses::start_at(heads, k + 1);
     write_clause(out, at, &lits[from..to])
 }
 
 // Writes the first n clauses of the store, one to a line.
-fn write_clauses(heads: &[u64], lits: &[u32], n: usize, out: &mut [u8], at: usize) -> Written
+fn write_clauses(heads: &[u32], lits: &[u32], n: usize, out: &mut [u8], at: usize) -> Written
     requires { ⌜ Formed (now heads) (now lits) n ⌝ }
     requires { ⌜ Room (now out) at (writeClauses (clausesOf (now heads) (now lits) n)) ⌝ }
     ensures { λ r. ⌜ WroteCounted (now (out .entry)) at (writeClauses (clausesOf (now (heads .entry)) (now (lits .entry)) n)) (now (out .exit)) (r .end) 0 (r .turns) ⌝ }
@@ -218,7 +203,7 @@ fn write_first_line(out: &mut [u8], vars: u64, clauses: u64) -> Written
 }
 
 // Writes the formula that the store holds to the front of a slice.
-pub fn write_formula(heads: &[u64], lits: &[u32], n: usize, vars: u64, out: &mut [u8]) -> Written
+pub fn write_formula(heads: &[u32], lits: &[u32], n: usize, vars: u64, out: &mut [u8]) -> Written
     requires { ⌜ Formed (now heads) (now lits) n ⌝ }
     requires { ⌜ lengthOf (now heads) (now lits) n vars ≤ length (now out) ⌝ }
     ensures { λ r. ⌜ WroteFormula (formulaOf (now (heads .entry)) (now (lits .entry)) n vars) (now (out .entry)) (now (out .exit)) (r .end) (r .turns) ⌝ }
@@ -271,18 +256,18 @@ fn add_clause(clause: &[u32], before: usize, room: usize) -> Sum
 }
 
 // Adds the bytes of the k-th clause of the store to a length.
-fn add_stored(heads: &[u64], lits: &[u32], k: usize, before: usize, room: usize) -> Sum
+fn add_stored(heads: &[u32], lits: &[u32], k: usize, before: usize, room: usize) -> Sum
     requires { ⌜ Placed (now heads) (now lits) k ⌝ }
     requires { ⌜ (before ≤ room) × (room < 2 ^ 63) ⌝ }
     ensures { λ r. ⌜ Measured before (before + length (writeClause (clauseAt (now (heads .entry)) (now (lits .entry)) k))) room 2 (r .total) (r .turns) ⌝ }
 {
-    let from = start(heads, k);
-    let to = start(heads, k + 1);
+    let from = clauses::start_at(heads, k);
+    let to = clauses::start_at(heads, k + 1);
     add_clause(&lits[from..to], before, room)
 }
 
 // Adds the bytes of the first n clauses of the store to a length.
-fn add_clauses(heads: &[u64], lits: &[u32], n: usize, before: usize, room: usize) -> Sum
+fn add_clauses(heads: &[u32], lits: &[u32], n: usize, before: usize, room: usize) -> Sum
     requires { ⌜ Formed (now heads) (now lits) n ⌝ }
     requires { ⌜ (before ≤ room) × (room < 2 ^ 63) ⌝ }
     ensures { λ r. ⌜ Measured before (before + length (writeClauses (clausesOf (now (heads .entry)) (now (lits .entry)) n))) room 0 (r .total) (r .turns) ⌝ }
@@ -316,7 +301,7 @@ fn line_digits(vars: u64, clauses: u64) -> usize
 }
 
 // How many bytes `write_formula` needs for the formula that the store holds, if they fit into the room.
-pub fn written_length(heads: &[u64], lits: &[u32], n: usize, vars: u64, room: usize) -> Fit
+pub fn written_length(heads: &[u32], lits: &[u32], n: usize, vars: u64, room: usize) -> Fit
     requires { ⌜ Formed (now heads) (now lits) n ⌝ }
     requires { ⌜ room < 2 ^ 63 ⌝ }
     ensures { λ r. ⌜ Answers (lengthOf (now (heads .entry)) (now (lits .entry)) n vars) room r ⌝ }

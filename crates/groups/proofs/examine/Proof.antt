@@ -6,26 +6,20 @@ use borrow.Author.Needs.{needs}
 use Rattle.groups.proofs.examine.Statement.{statement}
 use Rattle.groups.proofs.examine.Tie as tie
 
-mul-if1 : tie.Need-mul-if1
-mul-if1 c = search needs
-
-mul-if1-2 : tie.Need-mul-if1-2
-mul-if1-2 c = search needs
-
-shared-slice-read-if1 : tie.Need-shared-slice-read-if1
-shared-slice-read-if1 c = search needs
+head-at-requires : tie.Need-head-at-requires
+head-at-requires c κs = search needs
 
 returns : tie.Need-returns
-returns c = examined-deleted _ _ _ _ (λ e. omega (arith, c .if1 .taken))
+returns c = examined-deleted _ _ _ _ (λ e. omega (arith, c .if1 .taken, c .before .head-at .ensures))
 
-start-requires : tie.Need-start-requires
-start-requires c κs = search needs
+start-at-requires : tie.Need-start-at-requires
+start-at-requires c κs = search needs
 
-add-start : tie.Need-add-start
-add-start c = search needs
+add-start-at : tie.Need-add-start-at
+add-start-at c = search needs
 
-start-requires-2 : tie.Need-start-requires-2
-start-requires-2 c κs = search needs
+start-at-requires-2 : tie.Need-start-at-requires-2
+start-at-requires-2 c κs = search needs
 
 mul-contains : tie.Need-mul-contains
 mul-contains c = search needs
@@ -49,19 +43,17 @@ count-requires : tie.Need-count-requires
 count-requires c κs = search needs
 
 returns-2 : tie.Need-returns-2
-returns-2 c = examined-live _ _ _ _ (c .before .before .before .before .before .before .before .before .before .pre) (c .before .before .before .before .before .if1 .left) _ _ (c .before .before .before .before .start .ensures) (c .before .before .before .start2 .ensures) _ (c .before .contains .ensures) _ (c .count .ensures)
+returns-2 c = examined-live _ _ _ _ (c .before .before .before .before .before .before .before .before .before .pre) (omega (arith, c .before .before .before .before .before .if1 .left, c .before .before .before .before .before .before .head-at .ensures)) _ _ (c .before .before .before .before .start-at .ensures) (c .before .before .before .start-at2 .ensures) _ (c .before .contains .ensures) _ (c .count .ensures)
 
 pub examine-spec : {M : Type 1} → statement M
 examine-spec =
     tie.close
     (tie.spec
-    mul-if1
-    mul-if1-2
-    shared-slice-read-if1
+    head-at-requires
     returns
-    start-requires
-    add-start
-    start-requires-2
+    start-at-requires
+    add-start-at
+    start-at-requires-2
     mul-contains
     sub-contains
     part-contains-start

@@ -14,20 +14,14 @@ add-more c = search needs
 add-more-2 : tie.Need-add-more-2
 add-more-2 c = search needs
 
-mul-take-group : tie.Need-mul-take-group
-mul-take-group c = search needs
-
-mul-take-group-2 : tie.Need-mul-take-group-2
-mul-take-group-2 c = search needs
-
-shared-slice-read-take-group : tie.Need-shared-slice-read-take-group
-shared-slice-read-take-group c = search needs
+head-at-requires : tie.Need-head-at-requires
+head-at-requires c κs = search needs
 
 take-group-requires : tie.Need-take-group-requires
 take-group-requires c κs = search needs
 
 returns : tie.Need-returns
-returns c = pass-taken _ _ _ _ _ _ _ _ _ (c .before .before .before .before .examine .ensures) (c .before .before .if1 .taken) _ (c .take-group .ensures)
+returns c = pass-taken _ _ _ _ _ _ _ _ _ (c .before .before .before .before .examine .ensures) (c .before .before .if1 .taken) _ (rw (c .before .head-at .ensures) at (c .take-group .ensures))
 
 returns-2 : tie.Need-returns-2
 returns-2 c = pass-over _ _ _ _ _ _ _ _ _ (c .before .before .examine .ensures) (c .if1 .left) (c .before .before .before .before .before .before .pre .1 .0)
@@ -39,9 +33,7 @@ pass-spec =
     examine-requires
     add-more
     add-more-2
-    mul-take-group
-    mul-take-group-2
-    shared-slice-read-take-group
+    head-at-requires
     take-group-requires
     returns
     returns-2)

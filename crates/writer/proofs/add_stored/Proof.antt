@@ -5,14 +5,14 @@ use borrow.Author.Needs.{needs}
 use Rattle.writer.proofs.add_stored.Statement.{statement}
 use Rattle.writer.proofs.add_stored.Tie as tie
 
-start-requires : tie.Need-start-requires
-start-requires c κs = search needs
+start-at-requires : tie.Need-start-at-requires
+start-at-requires c κs = search needs
 
-add-start : tie.Need-add-start
-add-start c = search needs
+add-start-at : tie.Need-add-start-at
+add-start-at c = search needs
 
-start-requires-2 : tie.Need-start-requires-2
-start-requires-2 c κs = search needs
+start-at-requires-2 : tie.Need-start-at-requires-2
+start-at-requires-2 c κs = search needs
 
 mul-add-clause : tie.Need-mul-add-clause
 mul-add-clause c = search needs
@@ -34,15 +34,15 @@ returns c =
     let to = c .before .before in
     let from = to .before in
     let start = from .before .before .before in
-    measured-as (stored-text _ _ _ (start .pre .0) (from .start .ensures) (to .start2 .ensures)) (c .add-clause .ensures)
+    measured-as (stored-text _ _ _ (start .pre .0) (from .start-at .ensures) (to .start-at2 .ensures)) (c .add-clause .ensures)
 
 pub add-stored-spec : {M : Type 1} → statement M
 add-stored-spec =
     tie.close
     (tie.spec
-    start-requires
-    add-start
-    start-requires-2
+    start-at-requires
+    add-start-at
+    start-at-requires-2
     mul-add-clause
     sub-add-clause
     part-add-clause-start

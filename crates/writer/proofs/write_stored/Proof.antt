@@ -5,14 +5,14 @@ use borrow.Author.Needs.{needs}
 use Rattle.writer.proofs.write_stored.Statement.{statement}
 use Rattle.writer.proofs.write_stored.Tie as tie
 
-start-requires : tie.Need-start-requires
-start-requires c κs = search needs
+start-at-requires : tie.Need-start-at-requires
+start-at-requires c κs = search needs
 
-add-start : tie.Need-add-start
-add-start c = search needs
+add-start-at : tie.Need-add-start-at
+add-start-at c = search needs
 
-start-requires-2 : tie.Need-start-requires-2
-start-requires-2 c κs = search needs
+start-at-requires-2 : tie.Need-start-at-requires-2
+start-at-requires-2 c κs = search needs
 
 mul-write-clause : tie.Need-mul-write-clause
 mul-write-clause c = search needs
@@ -31,7 +31,7 @@ write-clause-requires c κs =
     let to = c .before .before in
     let from = to .before in
     let start = from .before .before .before .before in
-    room-as (stored-text _ _ _ (start .pre .0) (from .start .ensures) (to .start2 .ensures)) (start .pre .1)
+    room-as (stored-text _ _ _ (start .pre .0) (from .start-at .ensures) (to .start-at2 .ensures)) (start .pre .1)
 
 same-length : tie.Need-same-length
 same-length c = search needs
@@ -42,15 +42,15 @@ returns c =
     let to = clause .before .before .before in
     let from = to .before in
     let start = from .before .before .before .before in
-    counted-as (stored-text _ _ _ (start .pre .0) (from .start .ensures) (to .start2 .ensures)) (clause .write-clause .ensures)
+    counted-as (stored-text _ _ _ (start .pre .0) (from .start-at .ensures) (to .start-at2 .ensures)) (clause .write-clause .ensures)
 
 pub write-stored-spec : {M : Type 1} → statement M
 write-stored-spec =
     tie.close
     (tie.spec
-    start-requires
-    add-start
-    start-requires-2
+    start-at-requires
+    add-start-at
+    start-at-requires-2
     mul-write-clause
     sub-write-clause
     part-write-clause-start
