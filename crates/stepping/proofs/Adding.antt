@@ -12,7 +12,7 @@ use Rattle.rules.specs.Steps.{Hint, add}
 use Rattle.rules.specs.Judging.{Live, Ground, State, refused, addsEmpty, goesOn, additionFault, judge}
 use Rattle.rules.proofs.Ids.{accepted-fresh}
 use Rattle.clauses.specs.Codes.{literalOf, hintOf}
-use Rattle.clauses.specs.Store.{liveOf, Holds}
+use Rattle.clauses.specs.Store.{RoomFor, written, liveOf, Holds}
 use Rattle.clauses.proofs.Holding.{holds-front, holds-append}
 use Rattle.clauses.proofs.Numbers.{cut}
 use Rattle.deletion.specs.Deleting.{stateOf}

@@ -101,7 +101,7 @@ pub record Addable (heads lits hints marks : List ℕ) (b : Between) (id end man
   pub inside : end ≤ length lits
   pub known : (i : ℕ) → b .used ≤ i → i < end → getD lits i 0 < length marks
   pub few : many ≤ length hints
-  pub small : id < 2 ^ 60
+  pub small : id < 2 ^ 31
 
 -- The step goes on, and the store is at most so large then.
 pub record Goes (s : State) (step : Step) (heads lits marks : List ℕ) (most : ℕ) (b : Between) : Type 0 where

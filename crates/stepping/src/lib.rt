@@ -80,7 +80,7 @@ fn reading_and(bytes: usize, codes: usize, more: u64) -> u64
 // The clause whose literals end at `end` was accepted under `id`: it becomes live, unless it is empty.
 fn accept(heads: &mut [u32], guess: &mut [u32], b: Between, id: u64, end: usize) -> Outcome
     requires { ⌜ RoomFor (now heads) (b .n) ⌝ }
-    requires { ⌜ id < 2 ^ 60 ⌝ }
+    requires { ⌜ id < 2 ^ 31 ⌝ }
     ensures { λ r. ⌜ Accepts (now (heads .entry)) b id end (now (heads .exit)) r ⌝ }
 {
     if end <= b.used {
@@ -112,7 +112,7 @@ fn accept_by(
     end: usize,
 ) -> Outcome
     requires { ⌜ RoomFor (now heads) (b .n) ⌝ }
-    requires { ⌜ id < 2 ^ 60 ⌝ }
+    requires { ⌜ id < 2 ^ 31 ⌝ }
     ensures { λ r. ⌜ AcceptsBy v (now (heads .entry)) b id end (now (heads .exit)) r ⌝ }
 {
     match v {

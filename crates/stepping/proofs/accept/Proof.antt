@@ -1,5 +1,8 @@
--- `accept` meets its contract. Search finds every fact; the file stands here so that edits of the function are refused by name.
+-- `accept` meets its contract: the clause is appended, unless it is empty or there is no room for it. The file stands here also so
+-- that edits of the function are refused by name.
 -- Assumes nothing.
+use mathlib.Core.Path.{refl}
+use native.Mathlib.Omega.{arith}
 use borrow.Author.Needs.{needs}
 use Rattle.stepping.proofs.accept.Statement.{statement}
 use Rattle.stepping.proofs.accept.Tie as tie
@@ -32,7 +35,7 @@ same-length-2 : tie.Need-same-length-2
 same-length-2 c = search needs
 
 returns-3 : tie.Need-returns-3
-returns-3 c = search needs
+returns-3 c = record { case = record { more = omega (arith, c .before .before .before .before .before .before .before .before .before .if1 .left); room = omega (arith, c .before .before .before .before .before .before .before .before .if2 .left); after = c .before .before .before .before .before .before .append .ensures; is = refl } }
 
 pub accept-spec : {M : Type 1} → statement M
 accept-spec =

@@ -1,4 +1,5 @@
 -- `body::close` meets its contract: the clause is appended if there is room for it. Assumes nothing.
+use native.Mathlib.Omega.{arith}
 use borrow.Author.Needs.{needs}
 use Rattle.formula.proofs.body.close.Statement.{statement}
 use Rattle.formula.proofs.body.close.Tie as tie
@@ -25,7 +26,7 @@ same-length : tie.Need-same-length
 same-length c = search needs
 
 returns-2 : tie.Need-returns-2
-returns-2 c = record { case = (c .before .before .before .before .before .if1 .left, rw (c .before .before .before .count .ensures) at (c .before .before .append .ensures)) }
+returns-2 c = record { case = (omega (arith, c .before .before .before .before .before .if1 .left), rw (c .before .before .before .count .ensures) at (c .before .before .append .ensures)) }
 
 pub close-spec : {M : Type 1} → statement M
 close-spec =
