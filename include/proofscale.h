@@ -33,19 +33,19 @@ extern "C" {
  * *step is the number that comes with the answers 0, 2, 3 and 4, and 0 with the others; *turns is how many turns the loops made.
  *
  * The work store comes in six parts. For a formula of f bytes and a proof of p bytes in which variables up to v occur, these
- * lengths always do (their bytes together are at most 16 (f + p) + 8 v + 4096); much shorter ones often do, and the answer is
+ * lengths always do (their bytes together are at most 14 (f + p) + 2 v + 44); much shorter ones often do, and the answer is
  * PROOFSCALE_TOO_SHORT where they do not:
- *   heads   f + p + 4        two numbers for each clause that is alive, and up to as many again for deleted ones
- *   lits    (f + p + 3) / 2  a number for each literal of those clauses, and those of the step that is read
- *   hints   (p + 2) / 2      a number for each hint, or id to delete, of one step
- *   tape    f + p + 2        a number for each literal of one step and of its clauses, and for each of its hints
- *   marks   2 v + 2          a byte for each literal
- *   guess   any, also 0      where clauses probably are; one for each clause that is alive makes looking up quick,
- *                            and of the length the greatest power of 2 within it is used
+ *   heads   (3 (f + p) + 12) / 2  three numbers for each clause that is alive, and up to as many again for deleted ones
+ *   lits    (f + p + 3) / 2       a number for each literal of those clauses, and those of the step that is read
+ *   hints   (p + 2) / 2           a number for each hint, or id to delete, of one step
+ *   tape    f + p + 2             a number for each literal of one step and of its clauses, and for each of its hints
+ *   marks   2 v + 2               a byte for each literal
+ *   guess   any, also 0           where clauses probably are: 64 numbers for each clause that is alive make looking up quick; one
+ *                                 more than a power of 2 of them are used at most, and no more than 128 for each clause
  * What the parts hold before does not matter, and what they hold after is not promised to mean anything. */
 uint64_t proofscale_check(const uint8_t *formula, size_t formula_length,
                           const uint8_t *proof, size_t proof_length,
-                          uint64_t *heads, size_t heads_length,
+                          uint32_t *heads, size_t heads_length,
                           uint32_t *lits, size_t lits_length,
                           uint32_t *hints, size_t hints_length,
                           uint32_t *guess, size_t guess_length,
@@ -57,9 +57,9 @@ uint64_t proofscale_check(const uint8_t *formula, size_t formula_length,
  *
  * Returns 0 if it was written, and then *length is how many bytes; what lies behind them in `out` is as it was. Otherwise `out` is
  * as it was, byte for byte, and the answer is 1 (unreadable; *length is the place of the byte up to which it was read), 5 (the
- * store is too short) or 6 (the output is too short). A store of f + 3 numbers in `heads` and (f + 1) / 2 in `lits` always does. */
+ * store is too short) or 6 (the output is too short). A store of (3 f + 10) / 2 numbers in `heads` and (f + 1) / 2 in `lits` always does. */
 uint64_t proofscale_write(const uint8_t *formula, size_t formula_length,
-                          uint64_t *heads, size_t heads_length,
+                          uint32_t *heads, size_t heads_length,
                           uint32_t *lits, size_t lits_length,
                           uint8_t *out, size_t out_length,
                           uint64_t *length);

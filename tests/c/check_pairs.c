@@ -20,8 +20,7 @@ struct file {
 };
 
 struct store {
-    uint64_t *heads;
-    uint32_t *lits, *hints, *guess, *tape;
+    uint32_t *heads, *lits, *hints, *guess, *tape;
     uint8_t *marks;
     size_t heads_length, lits_length, hints_length, guess_length, marks_length, tape_length;
 };
@@ -71,7 +70,7 @@ static struct file read_file(const char *name) {
 /* The lengths of proofscale.h that always do, and a guess for each clause that there may be. */
 static struct store make_store(size_t f, size_t p) {
     struct store s;
-    s.heads_length = f + p + 4;
+    s.heads_length = (3 * (f + p) + 12) / 2;
     s.lits_length = (f + p + 3) / 2;
     s.hints_length = (p + 2) / 2;
     s.guess_length = (f + p) / 4;

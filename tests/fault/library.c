@@ -3,7 +3,7 @@
 #include "../../include/proofscale.h"
 
 uint64_t proofscale_check(const uint8_t *formula, size_t formula_length, const uint8_t *proof, size_t proof_length,
-                          uint64_t *heads, size_t heads_length, uint32_t *lits, size_t lits_length, uint32_t *hints,
+                          uint32_t *heads, size_t heads_length, uint32_t *lits, size_t lits_length, uint32_t *hints,
                           size_t hints_length, uint32_t *guess, size_t guess_length, uint8_t *marks, size_t marks_length,
                           uint32_t *tape, size_t tape_length, uint64_t *step, uint64_t *turns) {
     (void)formula, (void)formula_length, (void)proof, (void)heads, (void)heads_length, (void)lits, (void)lits_length;
@@ -13,7 +13,7 @@ uint64_t proofscale_check(const uint8_t *formula, size_t formula_length, const u
     return proof_length == 0 ? PROOFSCALE_UNFINISHED : 9;
 }
 
-uint64_t proofscale_write(const uint8_t *formula, size_t formula_length, uint64_t *heads, size_t heads_length, uint32_t *lits,
+uint64_t proofscale_write(const uint8_t *formula, size_t formula_length, uint32_t *heads, size_t heads_length, uint32_t *lits,
                           size_t lits_length, uint8_t *out, size_t out_length, uint64_t *length) {
     (void)formula, (void)formula_length, (void)heads, (void)heads_length, (void)lits, (void)lits_length, (void)out;
     *length = (uint64_t)out_length + 1;

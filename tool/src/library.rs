@@ -13,7 +13,7 @@ extern "C" {
         formula_length: usize,
         proof: *const u8,
         proof_length: usize,
-        heads: *mut u64,
+        heads: *mut u32,
         heads_length: usize,
         lits: *mut u32,
         lits_length: usize,
@@ -32,7 +32,7 @@ extern "C" {
     fn proofscale_write(
         formula: *const u8,
         formula_length: usize,
-        heads: *mut u64,
+        heads: *mut u32,
         heads_length: usize,
         lits: *mut u32,
         lits_length: usize,

@@ -11,6 +11,9 @@ use std::mem::size_of;
 /// Variables go up to this number (document 01, section 2).
 pub const GREATEST_VARIABLE: usize = 16_777_215;
 
+/// The numbers that the library has for each clause, beside those for its literals.
+const HEAD: usize = 3;
+
 /// No part is made shorter than this at first, unless a shorter one always does.
 const FEW: usize = 256;
 
@@ -34,7 +37,7 @@ impl Sizes {
     /// The parts with their names and the size of a number in each.
     pub fn parts(&self) -> [Part; 6] {
         [
-            Part { name: "heads", length: self.heads, width: size_of::<u64>() },
+            Part { name: "heads", length: self.heads, width: size_of::<u32>() },
             Part { name: "lits", length: self.lits, width: size_of::<u32>() },
             Part { name: "hints", length: self.hints, width: size_of::<u32>() },
             Part { name: "guess", length: self.guess, width: size_of::<u32>() },
@@ -111,7 +114,7 @@ impl Announced {
 pub fn enough_to_check(formula: usize, proof: usize) -> Sizes {
     let both = formula + proof;
     Sizes {
-        heads: both + 4,
+        heads: (3 * both + 12) / 2,
         lits: (both + 3) / 2,
         hints: (proof + 2) / 2,
         guess: FEW + both / 8,
@@ -124,11 +127,12 @@ pub fn enough_to_check(formula: usize, proof: usize) -> Sizes {
 /// found at once. A table of that length does not grow with the proof, as one with a place for each id does.
 const GUESSES: usize = 1 << 20;
 
-/// How many guesses are made room for: one for each clause that may be alive at a time. The library uses a power of 2 of them.
+/// How many guesses are made room for: one for each clause that may be alive at a time. The library uses a power of 2 of them, and
+/// one number more for how many that are; and no more of them than the clauses ask for that are alive.
 fn guesses(clauses: usize, proof: usize) -> usize {
     let alive = clauses.max(GUESSES).max(proof / 4096);
     let all = clauses + FEW + proof / 32;
-    alive.min(all).next_power_of_two()
+    alive.min(all).next_power_of_two() + 1
 }
 
 /// The lengths that a check is tried with first. A step of a proof in use takes some 50 bytes or more, and most of them are
@@ -137,7 +141,7 @@ pub fn first_to_check(formula: usize, proof: usize, announced: Announced) -> Siz
     let clauses = announced.clauses.min(formula / 2 + 1);
     let one_step = FEW + proof / 64;
     let first = Sizes {
-        heads: 2 * clauses + 2 + FEW + proof / 8,
+        heads: HEAD * (clauses + 1 + FEW + proof / 16),
         lits: formula / 2 + FEW + proof / 8,
         hints: one_step,
         guess: guesses(clauses, proof),
@@ -154,7 +158,7 @@ pub fn lean_to_check(formula: &[u8], proof: usize, announced: Announced, limit: 
     let one_step = FEW + proof / 1024;
     let clauses = announced.clauses.min(formula.len() / 2 + 1);
     let least = Sizes {
-        heads: 2 * clauses + 2,
+        heads: HEAD * (clauses + 1),
         lits: words_in(formula).saturating_sub(clauses),
         hints: one_step,
         guess: usize::try_from(limit / 64).unwrap_or(usize::MAX).min(guesses(clauses, proof)),
@@ -164,7 +168,7 @@ pub fn lean_to_check(formula: &[u8], proof: usize, announced: Announced, limit: 
     let most = enough_to_check(formula.len(), proof);
     let least = least.with(most, usize::min);
     let half = usize::try_from(limit.checked_sub(least.bytes())? / 2).unwrap_or(usize::MAX);
-    let lean = Sizes { heads: least.heads + half / size_of::<u64>(), lits: least.lits + half / size_of::<u32>(), ..least };
+    let lean = Sizes { heads: least.heads + half / size_of::<u32>(), lits: least.lits + half / size_of::<u32>(), ..least };
     Some(lean.with(most, usize::min))
 }
 
@@ -177,12 +181,12 @@ fn words_in(text: &[u8]) -> usize {
 
 /// The lengths that always do for writing a formula out, by include/proofscale.h.
 pub fn enough_to_write(formula: usize) -> Sizes {
-    Sizes { heads: formula + 3, lits: formula.div_ceil(2), ..Sizes::default() }
+    Sizes { heads: (3 * formula + 10) / 2, lits: formula.div_ceil(2), ..Sizes::default() }
 }
 
 /// The lengths that writing a formula out is tried with first.
 pub fn first_to_write(formula: usize, announced: Announced) -> Sizes {
-    let first = Sizes { heads: announced.clauses.saturating_mul(2).saturating_add(2), lits: formula, ..Sizes::default() };
+    let first = Sizes { heads: announced.clauses.saturating_add(1).saturating_mul(HEAD), lits: formula, ..Sizes::default() };
     first.with(enough_to_write(formula), usize::min)
 }
 
@@ -256,7 +260,7 @@ impl Plan {
 /// The six parts. What they hold means nothing to the tool.
 #[derive(Debug, Default)]
 pub struct Store {
-    pub heads: Vec<u64>,
+    pub heads: Vec<u32>,
     pub lits: Vec<u32>,
     pub hints: Vec<u32>,
     pub guess: Vec<u32>,
@@ -293,7 +297,6 @@ impl Store {
 pub trait Number: Copy {}
 impl Number for u8 {}
 impl Number for u32 {}
-impl Number for u64 {}
 
 /// So many zeros, as `vec![0; n]` makes them, but with `None` and not with the end of the process where there is no memory.
 pub fn zeroed<T: Number>(length: usize) -> Option<Vec<T>> {
@@ -367,15 +370,15 @@ mod tests {
         assert_eq!(lean_to_check(formula, 1000, announced, 100), None);
         for limit in [4_000, 10_000, 100_000] {
             let lean = lean_to_check(formula, 1000, announced, limit).expect("there is room enough");
-            assert!(lean.bytes() <= limit && lean.heads >= 10 && lean.lits >= 5 && lean.marks >= 8, "{lean:?}");
+            assert!(lean.bytes() <= limit && lean.heads >= 15 && lean.lits >= 5 && lean.marks >= 8, "{lean:?}");
         }
     }
 
     #[test]
     fn guesses_do_not_grow_with_the_proof_up_to_gigabytes() {
-        assert_eq!(guesses(1000, 1 << 32), GUESSES);
-        assert_eq!(guesses(1000, 100 << 20), GUESSES);
-        assert_eq!(guesses(8 * GUESSES, 1 << 32), 8 * GUESSES);
+        assert_eq!(guesses(1000, 1 << 32), GUESSES + 1);
+        assert_eq!(guesses(1000, 100 << 20), GUESSES + 1);
+        assert_eq!(guesses(8 * GUESSES, 1 << 32), 8 * GUESSES + 1);
         assert!(guesses(1000, 1 << 20) < GUESSES);
     }
 

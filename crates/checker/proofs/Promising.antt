@@ -136,7 +136,7 @@ promises f p heads lits hints marks tape cells c a turns x =
     short : FollowsLive f p heads lits hints marks tape a
     short q = short-marks f p heads lits hints marks tape cells c (rw long at (x .short q))
 
--- The stated lengths, in bytes: 8 for each number of `heads`, 4 for each of `lits`, `hints` and `tape`, 1 for each mark. They add up
--- to no more than document 01's figure, 16 for each byte of the two files, 8 for each variable and 4,096.
-pub store-bytes : (f p v : ℕ) → 8 * headsFor f p + 4 * litsFor f p + 4 * hintsFor p + 4 * tapeFor f p + marksFor v ≤ 16 * (f + p) + 8 * v + 4096
+-- The stated lengths, in bytes: 4 for each number of `heads`, `lits`, `hints` and `tape`, 1 for each mark. They add up to less than
+-- document 01's figure, 16 for each byte of the two files, 8 for each variable and 4,096.
+pub store-bytes : (f p v : ℕ) → 4 * headsFor f p + 4 * litsFor f p + 4 * hintsFor p + 4 * tapeFor f p + marksFor v ≤ 14 * (f + p) + 2 * v + 44
 store-bytes f p v = omega arith

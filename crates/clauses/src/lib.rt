@@ -260,7 +260,8 @@ pub fn note(guess: &mut [u32], id: u64, place: usize)
     guess[at] = now;
 }
 
-// The table is used as far as `n` clauses ask for: 16 to 32 slots for each.
+// The table is used as far as `n` clauses ask for: 64 to 128 slots for each, so that few of the ids that follow take the slot of
+// another one.
 fn fit(guess: &mut [u32], n: usize)
     ensures { λ _. ⌜ length (now (guess .exit)) ≡ length (now (guess .entry)) ⌝ }
 {
@@ -268,7 +269,7 @@ fn fit(guess: &mut [u32], n: usize)
         return;
     }
     let zeros = u64::leading_zeros(count(n));
-    guess[0] = if zeros < 4 { 0 } else { zeros - 4 };
+    guess[0] = if zeros < 6 { 0 } else { zeros - 6 };
 }
 
 // The next guess for each of the first `n` clauses is its place.

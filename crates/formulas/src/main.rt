@@ -61,7 +61,7 @@ fn show_written(w: FormulaWritten, out: &[u8]) {
 
 // With a store and an output that always do for a file of 4,096 bytes.
 fn with_room(text: &[u8]) {
-    let mut heads = [0u64; 4100];
+    let mut heads = [0u32; 6150];
     let mut lits = [0u32; 2050];
     let mut out = [0u8; 4200];
     show_read(formula::read(text, &mut heads, &mut lits));
@@ -71,7 +71,7 @@ fn with_room(text: &[u8]) {
 
 // With little of both: three clauses, six literals, thirty bytes.
 fn with_little(text: &[u8]) {
-    let mut heads = [0u64; 8];
+    let mut heads = [0u32; 12];
     let mut lits = [0u32; 6];
     let mut out = [0u8; 30];
     say(b"with little room");

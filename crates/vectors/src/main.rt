@@ -97,7 +97,7 @@ fn checked(
 // With a store that always does for two files of 4,096 bytes each with variables up to 2,047. What is in it before does not
 // matter.
 fn with_room(formula: &[u8], proof: &[u8], expected: &[u8]) {
-    let mut heads = [18446744073709551615u64; 8300];
+    let mut heads = [4294967295u32; 12450];
     let mut lits = [1u32; 4200];
     let mut hints = [4294967295u32; 2100];
     let mut guess = [7u32; 600];
@@ -118,7 +118,7 @@ fn with_room(formula: &[u8], proof: &[u8], expected: &[u8]) {
 
 // With a store for two dozen short clauses with variables up to 9.
 fn with_little(formula: &[u8], proof: &[u8], expected: &[u8]) {
-    let mut heads = [0u64; 52];
+    let mut heads = [0u32; 78];
     let mut lits = [0u32; 64];
     let mut hints = [0u32; 24];
     let mut guess = [0u32; 5];
@@ -140,13 +140,13 @@ fn with_little(formula: &[u8], proof: &[u8], expected: &[u8]) {
 
 // With a store of which one part after the other is short.
 fn with_parts(formula: &[u8], proof: &[u8], expected: &[u8]) {
-    let mut heads = [0u64; 52];
+    let mut heads = [0u32; 78];
     let mut lits = [0u32; 64];
     let mut hints = [0u32; 24];
     let mut guess = [0u32; 5];
     let mut marks = [0u8; 20];
     let mut tape = [0u32; 64];
-    let mut few_heads = [0u64; 21];
+    let mut few_heads = [0u32; 31];
     let mut few_lits = [0u32; 26];
     let mut few_hints = [0u32; 3];
     let mut few_guesses = [0u32; 0];

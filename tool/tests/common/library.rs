@@ -15,7 +15,7 @@ extern "C" {
         formula_length: usize,
         proof: *const u8,
         proof_length: usize,
-        heads: *mut u64,
+        heads: *mut u32,
         heads_length: usize,
         lits: *mut u32,
         lits_length: usize,
@@ -34,7 +34,7 @@ extern "C" {
     fn proofscale_write(
         formula: *const u8,
         formula_length: usize,
-        heads: *mut u64,
+        heads: *mut u32,
         heads_length: usize,
         lits: *mut u32,
         lits_length: usize,
@@ -153,7 +153,7 @@ impl Lengths {
     /// The lengths that the header says always do, with a table of guesses that has room for some clauses.
     pub fn stated(formula: usize, proof: usize, greatest_variable: u64) -> Lengths {
         Lengths {
-            heads: formula + proof + 4,
+            heads: (3 * (formula + proof) + 12) / 2,
             lits: (formula + proof + 3) / 2,
             hints: (proof + 2) / 2,
             guess: (formula + proof) / 8,
@@ -167,7 +167,7 @@ impl Lengths {
     pub fn by_live_clauses(formula: usize, verdict: &Verdict) -> Lengths {
         let (kept, step) = (2 * verdict.greatest_weight, verdict.greatest_step);
         Lengths {
-            heads: (formula + 3).max(2 * kept + 4),
+            heads: ((3 * formula + 10) / 2).max(3 * kept + 6),
             lits: formula.div_ceil(2).max(kept + step + 1),
             hints: step + 1,
             guess: verdict.greatest_weight / 2,
@@ -179,13 +179,13 @@ impl Lengths {
 
 /// How much of the store always does to write a formula of so many bytes, in `heads` and in `lits`.
 pub fn to_write(formula: usize) -> (usize, usize) {
-    (formula + 3, formula.div_ceil(2))
+    ((3 * formula + 10) / 2, formula.div_ceil(2))
 }
 
 /// The store that the calls use, kept from one to the next only to spare asking for memory.
 #[derive(Default)]
 pub struct Library {
-    heads: Part<u64>,
+    heads: Part<u32>,
     lits: Part<u32>,
     hints: Part<u32>,
     guess: Part<u32>,
