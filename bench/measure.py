@@ -1,5 +1,5 @@
-"""Measures: measure.py FOLDER TOOL RUNS. Runs Proofscale and lrat-check in turn on each input, and writes FOLDER/runs.json: of each
-run the wall seconds, from the start of the process to its end, and the peak of its memory.
+"""Measures: measure.py FOLDER TOOL ROUNDS. In each round, Proofscale and lrat-check run in turn on each size of an input. Writes
+FOLDER/runs.json: of each run the wall seconds, from the start of the process to its end, and the peak of its memory.
 
 The files are read once before, so that they are in the system's cache for all.
 
@@ -38,7 +38,7 @@ def read_through(path):
             pass
 
 
-def main(folder, tool, runs):
+def main(folder, tool, rounds):
     checkers = {
         "proofscale": lambda f, p: [os.path.abspath(tool), "check", "--quiet", f, p],
         "lrat-check": lambda f, p: [f"{folder}/bin/lrat-check", f, p],
@@ -50,18 +50,34 @@ def main(folder, tool, runs):
     log = f"{folder}/run.log"
     for row in rows:
         row["bytes"] = [os.path.getsize(row[kind]) for kind in ("formula", "proof")]
-        row["runs"] = {checker: [] for checker in checkers}
-        for kind in ("formula", "proof"):
-            read_through(row[kind])
-        for _ in range(runs):
-            for checker, command in checkers.items():
-                seconds, peak, status = spend(folder, command(row["formula"], row["proof"]), log)
-                expect(checker, row, status, log)
-                row["runs"][checker].append([seconds, peak])
-        least = {checker: min(seconds for seconds, _ in spent) for checker, spent in row["runs"].items()}
-        print(row["input"], f"1/{row['size']}", " ".join(f"{c} {s:.3f} s" for c, s in least.items()), flush=True)
+        row["rounds"] = []
+    for name in dict.fromkeys(row["input"] for row in rows):
+        sizes = [row for row in rows if row["input"] == name]
+        for row in sizes:
+            for kind in ("formula", "proof"):
+                read_through(row[kind])
+        for _ in range(rounds):
+            for row in sizes:
+                row["rounds"].append({checker: turns(folder, checker, command, row, log) for checker, command in checkers.items()})
+        for row in sizes:
+            print(row["input"], f"1/{row['size']}", " ".join(f"{c} {least(row, c):.3f} s" for c in checkers), flush=True)
     with open(f"{folder}/runs.json", "w", encoding="ascii") as out:
         json.dump(rows, out, indent=1)
+
+
+def turns(folder, checker, command, row, log):
+    """The runs of one checker on one input in one round, as pairs of seconds and peak. Ours has as many as the input goes into the
+    largest of its kind, so that equal bytes are read in each size, and a slow moment of the machine meets all sizes."""
+    runs = []
+    for _ in range(row["size"] if checker == "proofscale" else 1):
+        seconds, peak, status = spend(folder, command(row["formula"], row["proof"]), log)
+        expect(checker, row, status, log)
+        runs.append([seconds, peak])
+    return runs
+
+
+def least(row, checker):
+    return min(seconds for turn in row["rounds"] for seconds, _ in turn[checker])
 
 
 if __name__ == "__main__":

@@ -6,19 +6,30 @@ import json
 import os
 import platform
 import re
+import statistics
 import subprocess
 import sys
 
 HEAD = (
-    "| input | size | formula MB | proof MB | Proofscale s | lrat-check s | ratio | ns a byte, growth | lrat-check's | "
+    "| input | size | formula MB | proof MB | Proofscale s | lrat-check s | ratio, of rounds | ns a byte, growth | lrat-check's | "
     "Proofscale peak MB | less the files | lrat-check peak MB |"
 )
 
 
 def least(row, checker):
     """The least seconds, and the largest peak in MB."""
-    runs = row["runs"][checker]
+    runs = [run for turn in row["rounds"] for run in turn[checker]]
     return min(seconds for seconds, _ in runs), max(peak for _, peak in runs) * 1024 / 1e6
+
+
+def means(row, checker):
+    """The mean of the seconds in each round."""
+    return [statistics.mean(seconds for seconds, _ in turn[checker]) for turn in row["rounds"]]
+
+
+def median_ratio(xs, ys):
+    """Of what was measured in the same round."""
+    return statistics.median(x / y for x, y in zip(xs, ys))
 
 
 def work(row, same_formula):
@@ -34,13 +45,15 @@ def line(row, small, same):
     both = formula + proof
 
     def growth(checker):
-        mine, first = (least(r, checker)[0] / work(r, same) for r in (row, small))
-        return f"{1e9 * mine:.1f}, {mine / first:.2f}"
+        mine = least(row, checker)[0] / work(row, same)
+        more = median_ratio(means(row, checker), means(small, checker)) * work(small, same) / work(row, same)
+        return f"{1e9 * mine:.1f}, {more:.2f}"
 
     size = "1" if row["size"] == 1 else f"1/{row['size']}"
-    cells = [row["input"], size, f"{formula:.2f}", f"{proof:.1f}", f"{ours:.3f}", f"{theirs:.3f}", f"{ours / theirs:.2f}"]
+    cells = [row["input"], size, f"{formula:.2f}", f"{proof:.1f}", f"{ours:.3f}", f"{theirs:.3f}"]
+    cells += [f"{ours / theirs:.2f}, {median_ratio(means(row, 'proofscale'), means(row, 'lrat-check')):.2f}"]
     cells += [growth("proofscale"), growth("lrat-check"), f"{our_peak:.0f}", f"{our_peak - both:.0f}", f"{their_peak:.0f}"]
-    if "ACL2" in row["runs"]:
+    if "ACL2" in row["rounds"][0]:
         cells += [f"{least(row, 'ACL2')[0]:.3f}", f"{least(row, 'ACL2')[1]:.0f}"]
     return "| " + " | ".join(cells) + " |"
 
@@ -62,12 +75,12 @@ def table(folder):
     with open(f"{folder}/runs.json", encoding="ascii") as file:
         rows = json.load(file)
     small = {row["input"]: row for row in rows if row["size"] == 8}
-    runs = len(rows[0]["runs"]["proofscale"])
+    rounds = len(rows[0]["rounds"])
     when = datetime.date.fromtimestamp(os.path.getmtime(f"{folder}/runs.json"))
-    facts = f"Machine: {machine()}. Date: {when}. Commit: {head_commit()}. Command: `bench/run`; {runs} runs of each.\n\n"
+    facts = f"Machine: {machine()}. Date: {when}. Commit: {head_commit()}. Command: `bench/run`; {rounds} rounds.\n\n"
     lengths = {name: {row["bytes"][0] for row in rows if row["input"] == name} for name in small}
     lines = [line(row, small[row["input"]], len(lengths[row["input"]]) == 1) for row in rows]
-    head = HEAD + (" ACL2 s | ACL2 peak MB |" if "ACL2" in rows[0]["runs"] else "")
+    head = HEAD + (" ACL2 s | ACL2 peak MB |" if "ACL2" in rows[0]["rounds"][0] else "")
     rule = "|---|---" + "|---:" * (head.count("|") - 3) + "|"
     return facts + "\n".join([head, rule] + lines) + "\n"
 
