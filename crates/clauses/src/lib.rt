@@ -289,7 +289,7 @@ pub fn note_all(heads: &[u32], n: usize, guess: &mut [u32]) -> u64
     noted
 }
 
-// No clause: its literals would begin where all do.
+// The store becomes empty: its first clause, once there is one, begins where the literals do.
 pub fn begin(heads: &mut [u32])
     requires { ⌜ RoomFor (now heads) 0 ⌝ }
     ensures begins { λ _. ⌜ startAt (now (heads .exit)) 0 ≡ 0 ⌝ }

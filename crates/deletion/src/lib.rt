@@ -3,8 +3,8 @@
 // how much room that is, is counted here. Nothing is promised of heads that belong to no store.
 use clauses::Found;
 ghost use mathlib.Core.Path.{_≡_};
-ghost use Prim.Native.Nat.{_+_, _-_, _*_, _<_, _≤_};
-ghost use lib.ListN.{length, set};
+ghost use Prim.Native.Nat.{_+_, _-_, _<_, _≤_};
+ghost use lib.ListN.{length};
 ghost use Rattle.clauses.specs.Store.{startAt, marked};
 ghost use Rattle.deletion.specs.Deleting.{Headed, Removable, Deletable, DeletesOne, Deletes};
 

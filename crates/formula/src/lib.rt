@@ -10,7 +10,6 @@ use body::BodyRead;
 use opening::Header;
 use text::Token;
 use writer::Fit;
-ghost use mathlib.Core.Path.{_≡_};
 ghost use Prim.Native.Nat.{_+_, _<_, _≤_};
 ghost use lib.ListN.{length, drop};
 ghost use Rattle.rules.specs.Limits.{maxVariable, maxClauses};

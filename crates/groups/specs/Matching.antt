@@ -1,6 +1,6 @@
 -- Where the groups of hints begin, and what holding them against the live clauses comes to, in terms of document 01's rule 4
 -- (rules' Judging) and of the store of live clauses (clauses' Store).
-use Prim.Native.Nat.{ℕ, zero, suc, _+_, _-_, _*_, _/_, _%_, _<_, _≤_}
+use Prim.Native.Nat.{ℕ, zero, suc, _+_, _-_, _/_, _%_, _<_, _≤_}
 use mathlib.Core.Path.{_≡_}
 use mathlib.Core.Bool.{Bool, true, false}
 use mathlib.Core.List.{List, [], _∷_, _++_, map}

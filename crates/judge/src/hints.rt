@@ -9,7 +9,7 @@
 use assignment::Look;
 use clauses::Found;
 ghost use mathlib.Core.Path.{_≡_};
-ghost use Prim.Native.Nat.{_*_, _<_, _≤_, _^_};
+ghost use Prim.Native.Nat.{_<_, _≤_, _^_};
 ghost use lib.ListN.{length};
 ghost use Rattle.clauses.specs.Store.{RoomFor, liveOf};
 ghost use Rattle.clauses.specs.Finding.{Peeked};

@@ -5,7 +5,7 @@ use mathlib.Core.Logic.{inl, inr, ⊎-elim}
 use mathlib.Core.List.{List, [], _∷_, _++_, map}
 use mathlib.Core.Option.{none, some}
 use native.Mathlib.Omega.{arith}
-use lib.ListN.{length, getD, take, drop, set, length-map, length-drop}
+use lib.ListN.{length, getD, take, drop, length-map, length-drop}
 use lib.Seq.{slice, getD-take, length-take-le, take-take}
 use Rattle.meaning.specs.Meaning.{Clause}
 use Rattle.rules.specs.Steps.{Hint, add}

@@ -2,18 +2,7 @@
 -- clauses from `base` on; and `span` is what is left of n after `turns` halvings. The measure is `span`. Assumes nothing.
 use Prim.Native.Nat.{_*_, _/_, _≤_}
 use native.Mathlib.Omega.{arith}
-use Rattle.clauses.proofs.Searching.{
-  Bracket,
-  Halving,
-  bracket-start,
-  halving-start,
-  bracket-on,
-  halving-on,
-  bracket-none,
-  halving-end,
-  halvings-none,
-  reached-le,
-}
+use Rattle.clauses.proofs.Searching.{Bracket, Halving, bracket-start, halving-start, bracket-on, halving-on, bracket-none, halving-end, halvings-none, reached-le}
 use borrow.Author.Needs.{needs}
 use Rattle.clauses.proofs.find.Statement.{statement}
 use Rattle.clauses.proofs.find.Tie as tie

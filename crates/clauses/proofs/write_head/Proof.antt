@@ -1,76 +1,57 @@
+-- `clauses::write_head` meets its contract, by what `count` and `narrow` ensure. Assumes nothing.
 use mathlib.Core.Path.{refl}
 use native.Mathlib.Omega.{arith}
-use Rattle.clauses.specs.Store.{written}
 use lib.ListN.{length-set}
+use Rattle.clauses.specs.Store.{written}
 use borrow.Author.Needs.{needs}
 use Rattle.clauses.proofs.write_head.Statement.{statement}
 use Rattle.clauses.proofs.write_head.Tie as tie
-use Rattle.clauses.proofs.write_head.Reads as reads
-use Rattle.clauses.proofs.write_head.Lts as lts
-use Rattle.clauses.proofs.count.Reads as count-reads
-use Rattle.clauses.proofs.narrow.Reads as narrow-reads
 
--- src/lib.rt:278:9
 count-requires : tie.Need-count-requires
 count-requires c κs = search needs
 
--- src/lib.rt:279:11
 mul-heads : tie.Need-mul-heads
 mul-heads c = search needs
 
--- src/lib.rt:279:5
 mul-heads-2 : tie.Need-mul-heads-2
 mul-heads-2 c = search needs
 
--- src/lib.rt:279:5
 slice-write-heads : tie.Need-slice-write-heads
 slice-write-heads c = search needs
 
--- src/lib.rt:280:24
 narrow-requires : tie.Need-narrow-requires
 narrow-requires c κs = search needs
 
--- src/lib.rt:280:11
 mul-heads-3 : tie.Need-mul-heads-3
 mul-heads-3 c = search needs
 
--- src/lib.rt:280:11
 add-heads : tie.Need-add-heads
 add-heads c = search needs
 
--- src/lib.rt:280:5
 mul-heads-4 : tie.Need-mul-heads-4
 mul-heads-4 c = search needs
 
--- src/lib.rt:280:5
 slice-write-heads-2 : tie.Need-slice-write-heads-2
 slice-write-heads-2 c = rw length-set (omega (arith, c .before .before .before .pre))
 
--- src/lib.rt:281:24
 narrow-requires-2 : tie.Need-narrow-requires-2
 narrow-requires-2 c κs = search needs
 
--- src/lib.rt:281:11
 mul-heads-5 : tie.Need-mul-heads-5
 mul-heads-5 c = search needs
 
--- src/lib.rt:281:11
 add-heads-2 : tie.Need-add-heads-2
 add-heads-2 c = search needs
 
--- src/lib.rt:281:5
 mul-heads-6 : tie.Need-mul-heads-6
 mul-heads-6 c = search needs
 
--- src/lib.rt:281:5
 slice-write-heads-3 : tie.Need-slice-write-heads-3
 slice-write-heads-3 c = rw (length-set, length-set) (omega (arith, c .before .before .before .before .pre))
 
--- src/lib.rt:274:1
 same-length : tie.Need-same-length
 same-length c = search needs
 
--- src/lib.rt:274:1
 returns : tie.Need-returns
 unfolding written
 returns c = rw (c .before .narrow .ensures, c .narrow2 .ensures, c .before .before .count .ensures) refl

@@ -1,6 +1,6 @@
-use Rattle.clauses.proofs.Holding.{holds-empty}
-use native.Mathlib.Omega.{arith}
 -- `formula::read_rest` meets its contract: an empty store, the clauses, the end. Assumes nothing.
+use native.Mathlib.Omega.{arith}
+use Rattle.clauses.proofs.Holding.{holds-empty}
 use Rattle.formula.proofs.Wholes.{rest-short, rest-unreadable, rest-too-short, rest-fits, rest-finished}
 use borrow.Author.Needs.{needs}
 use Rattle.formula.proofs.read_rest.Statement.{statement}
