@@ -55,7 +55,7 @@ fn in_parts(file: &File, length: usize, threads: usize) -> Option<Vec<u8>> {
     if threads < 2 {
         return None;
     }
-    // One byte more, as below.
+    // One byte more lets the reading of what is behind notice the end without growing.
     let mut bytes = zeroed::<u8>(length.checked_add(1)?)?;
     bytes.truncate(length);
     let part = length.div_ceil(threads);
@@ -112,7 +112,7 @@ mod tests {
     use super::*;
     use std::fs;
 
-    /// Bytes that are not the same at any two places which parts could be mistaken for each other.
+    /// Bytes by which it would be seen if parts stood in each other's place.
     fn text(length: usize) -> Vec<u8> {
         (0..length).map(|i| (i ^ (i >> 8) ^ (i >> 16) ^ (i >> 21)) as u8).collect()
     }

@@ -92,7 +92,7 @@ pub fn write_number(out: &mut [u8], at: usize, v: u64) -> usize
     end
 }
 
-// A cast that is a function of its own asks nothing of the code around it: so here, and in `long` and `index`.
+// A cast that is a function of its own asks nothing of the code around it: so here, and in `long`.
 fn wide(x: u32) -> u64
     ensures { λ r. ⌜ r ≡ x ⌝ }
 {
