@@ -3,4 +3,5 @@ pub mod Places
 pub mod Numbers
 pub mod Wordings
 pub mod Tokens
+pub mod Bytes
 pub mod Shorts

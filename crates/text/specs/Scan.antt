@@ -1,5 +1,5 @@
 -- What the functions of this crate find at a place of a text, in terms of document 01's definitions (rules' Text).
-use Prim.Native.Nat.{ℕ, suc, _+_, _*_, _/_, _%_, _≤_, _<_, min}
+use Prim.Native.Nat.{ℕ, zero, suc, _+_, _*_, _-_, _/_, _%_, _^_, _≤_, _<_, min}
 use mathlib.Core.Path.{_≡_}
 use mathlib.Core.Logic.{_⊎_}
 use mathlib.Core.Bool.{Bool, true, false}
@@ -114,38 +114,49 @@ pub record AboveNought (b r : ℕ) : Type 0 where
   pub few : r ≤ 255
   pub is : r < 10 → b ≡ r + 48
 
--- One of two numbers, by whether d is the worth of a digit.
-pub record Picked (d no yes r : ℕ) : Type 0 where
-  pub is-yes : d < 10 → r ≡ yes
-  pub is-no : 10 ≤ d → r ≡ no
-
--- Some of the three bytes from `from` on, as digits behind `first`: 32 times what they say with it, and `more` and their number.
-pub record UpToThree (s : List ℕ) (first from more r : ℕ) : Type 0 where
-  pub value : ℕ
-  pub count : ℕ
-  pub is : r ≡ 32 * value + (more + count)
-  pub few : count ≤ 3
-  pub least : first ≤ value
-  pub large : value ≤ first * 1000 + 999
-  pub run : Digits s first from value (from + count)
-
 -- A number of this size stands behind the place `at`, and takes so many bytes together with the one at `at`.
 pub record UnsignedNumber (s : List ℕ) (at size bytes : ℕ) : Type 0 where
   pub positive : 1 ≤ size
   pub plain : Plain (getD s (at + 1) 0)
   pub number : Positive (at + 1) (drop (at + 1) s) size (at + bytes)
 
--- The word behind the place `at` as a number of up to seven digits: 32 times its size, and how many bytes it takes with the one
--- at `at`. Of 0 nothing is said.
-pub record Unsigned (s : List ℕ) (at r : ℕ) : Type 0 where
-  pub small : r / 32 ≤ 9999999
-  pub few : r % 32 ≤ 8
-  pub is : 1 ≤ r → UnsignedNumber s at (r / 32) (r % 32)
-
 -- 1 only for a sign, and else 0.
 pub record Sign (b r : ℕ) : Type 0 where
   pub few : r ≤ 1
   pub is : 1 ≤ r → b ≡ 45
+
+-- The number that k bytes from the place i on make, the first of them lowest.
+unfoldable pub bytesAt : List ℕ → ℕ → ℕ → ℕ
+bytesAt s i zero = 0
+bytesAt s i (suc k) = getD s i 0 + 256 * bytesAt s (i + 1) k
+
+-- The k bytes from the place `at` on, as one number.
+pub record Bytes (s : List ℕ) (at k r : ℕ) : Type 0 where
+  pub is : r ≡ bytesAt s at k
+  pub bytes : (i : ℕ) → at ≤ i → i < at + k → getD s i 0 < 256
+
+-- How far the bytes of w are above eight digits 0, the lowest of them above 3 less if there is a sign; moved up so that n are left.
+pub record MovedUp (w sign n r : ℕ) : Type 0 where
+  pub difference : ℕ
+  pub is : (difference + (3472328296227680304 - 3 * sign)) % 2 ^ 64 ≡ w
+  pub moved : r ≡ difference * 2 ^ (64 - 8 * n) % 2 ^ 64
+
+-- Each of the lowest k bytes of x is at most m.
+abbrev pub EachUpTo : ℕ → ℕ → ℕ → Type 0
+EachUpTo m zero x = Unit {0}
+EachUpTo m (suc k) x = (x % 256 ≤ m) × EachUpTo m k (x / 256)
+
+pub record EachAtMost (m k x : ℕ) : Type 0 where
+  pub each : EachUpTo m k x
+
+-- If the answer is yes, P.
+pub record Tells (r : Bool) (P : Type 0) : Type 0 where
+  pub yes : r ≡ true → P
+
+-- What the lowest k bytes of x say as digits behind v, the lowest first.
+unfoldable pub said : ℕ → ℕ → ℕ → ℕ
+said zero v x = v
+said (suc k) v x = said k (v * 10 + x % 256) (x / 256)
 
 -- The first token of the text s, which begins at the place `at`, is a number of this size, and takes so many bytes together with
 -- the blanks before it. Its code is twice the size, and 1 more if it is negative.

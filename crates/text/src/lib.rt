@@ -10,7 +10,7 @@ ghost use mathlib.Core.Bool.{false};
 ghost use Prim.Native.Nat.{_+_, _*_, _<_, _≤_};
 ghost use lib.ListN.{length, drop, getD};
 ghost use Rattle.rules.specs.Text.{isBlank, word};
-ghost use Rattle.text.specs.Scan.{most, blanks, endsWord, Stops, Numbered, Ran, Positive, OneByte, Plain, Guessing, Wording, Scans, isOther, AboveNought, Picked, UpToThree, Unsigned, Sign, Short};
+ghost use Rattle.text.specs.Scan.{most, blanks, endsWord, Stops, Numbered, Ran, Positive, OneByte, Plain, Guessing, Wording, Scans, isOther, AboveNought, Sign, Bytes, MovedUp, EachAtMost, Tells, said, Short};
 
 // A token. A number is given by its size, at most 10^18. `Nothing` is the end of the text.
 pub enum Token {
@@ -35,7 +35,7 @@ pub struct Number {
 }
 
 fn wide(x: u8) -> u64
-    ensures { λ r. ⌜ r ≡ x ⌝ }
+    ensures { λ r. ⌜ (r ≡ x) × (r < 256) ⌝ }
 {
     x as u64
 }
@@ -313,59 +313,6 @@ fn digit(b: u8) -> u64
     wide(std::num::wrapping_sub_u8(b, 48))
 }
 
-// This is compiled to a conditional move: how many digits a number has is hard to foresee, and a branch on it costs more.
-fn pick(d: u64, no: u64, yes: u64) -> u64
-    ensures { λ r. ⌜ Picked d no yes r ⌝ }
-{
-    if d < 10 { yes } else { no }
-}
-
-// Up to three digits more, from `from` on, behind a number that is `first` so far: 32 times the number, and `more` and how many
-// digits there were. All three bytes are read before it is known which of them count.
-fn three(s: &[u8], from: usize, first: u64, more: u64) -> u64
-    requires { ⌜ from + 2 < length (now s) ⌝ }
-    requires { ⌜ first ≤ 9999 ⌝ }
-    requires { ⌜ more ≤ 5 ⌝ }
-    ensures { λ r. ⌜ UpToThree (now (s .entry)) first from more r ⌝ }
-{
-    let d1 = digit(s[from]);
-    let d2 = digit(s[from + 1]);
-    let d3 = digit(s[from + 2]);
-    let v1 = first * 10 + d1;
-    let v2 = v1 * 10 + d2;
-    let v3 = v2 * 10 + d3;
-    let r2 = pick(d3, v2 * 32 + more + 2, v3 * 32 + more + 3);
-    let r1 = pick(d2, v1 * 32 + more + 1, r2);
-    pick(d1, first * 32 + more, r1)
-}
-
-// The number of up to seven digits behind the place `at`, if a space is behind it: 32 times its size, and how many bytes it
-// takes with the one at `at`. 0 if it is none.
-fn unsigned(s: &[u8], at: usize) -> u64
-    requires { ⌜ at + 8 < length (now s) ⌝ }
-    ensures { λ r. ⌜ Unsigned (now (s .entry)) at r ⌝ }
-{
-    let first = digit(s[at + 1]);
-    if first < 1 {
-        return 0;
-    }
-    if 9 < first {
-        return 0;
-    }
-    let r = three(s, at + 2, first, 2);
-    if s[at + ((r % 32) as usize)] == 32 {
-        return r;
-    }
-    if r % 32 < 5 {
-        return 0;
-    }
-    let q = three(s, at + 5, r / 32, 5);
-    if s[at + ((q % 32) as usize)] == 32 {
-        return q;
-    }
-    0
-}
-
 // 1 for a sign. It is added and not branched on, since signs are hard to foresee.
 fn sign_of(b: u8) -> u64
     ensures { λ r. ⌜ Sign b r ⌝ }
@@ -373,7 +320,77 @@ fn sign_of(b: u8) -> u64
     if b == 45 { 1 } else { 0 }
 }
 
-// The first token from `at` on, if it is a number of up to seven digits with a space before and behind it, as nearly all are:
+// One byte, as a number of 64 bits.
+fn byte(s: &[u8], at: usize) -> u64
+    requires { ⌜ at < length (now s) ⌝ }
+    ensures { λ r. ⌜ (r ≡ getD (now (s .entry)) at 0) × (r < 256) ⌝ }
+{
+    wide(s[at])
+}
+
+// Eight bytes as one number, the first of them lowest. In this form, and not as a sum, it is compiled to one load.
+fn eight(s: &[u8], at: usize) -> u64
+    requires { ⌜ at + 7 < length (now s) ⌝ }
+    ensures { λ r. ⌜ Bytes (now (s .entry)) at 8 r ⌝ }
+{
+    let b0 = byte(s, at);
+    let b1 = byte(s, at + 1);
+    let b2 = byte(s, at + 2);
+    let b3 = byte(s, at + 3);
+    let b4 = byte(s, at + 4);
+    let b5 = byte(s, at + 5);
+    let b6 = byte(s, at + 6);
+    let b7 = byte(s, at + 7);
+    b0 | b1 << 8 | b2 << 16 | b3 << 24 | b4 << 32 | b5 << 40 | b6 << 48 | b7 << 56
+}
+
+// A number of 32 bits, as an index.
+fn cell(x: u32) -> usize
+    ensures { λ r. ⌜ r ≡ x ⌝ }
+{
+    x as usize
+}
+
+// How many of eight bytes probably stand before the first space: before the first byte behind the lowest that has not the bit
+// which all digits have and a space has not. Any number will do, since it is looked at whether there is a space.
+fn before_space(w: u64) -> usize {
+    let gaps = (18446744073709551615 - w) & 1157442765409226752;
+    cell(u64::trailing_zeros(gaps) / 8)
+}
+
+// How far each of the lowest `n` bytes is above the digit 0, moved up so far that nothing is left of the other bytes. A sign is
+// taken for a 0 in front of the number: it stands 3 below that digit.
+fn worths(w: u64, sign: u64, n: usize) -> u64
+    requires { ⌜ (1 ≤ n) × (n ≤ 7) ⌝ }
+    requires { ⌜ sign ≤ 1 ⌝ }
+    ensures { λ r. ⌜ MovedUp w sign n r ⌝ }
+{
+    let difference = std::num::wrapping_sub_u64(w, 3472328296227680304 - 3 * sign);
+    difference << (64 - 8 * (n as u64))
+}
+
+// Whether each of the eight bytes is at most 9: neither it nor 6 more than it is 16 or more.
+fn all_digits(d: u64) -> bool
+    ensures { λ r. ⌜ Tells r (EachAtMost 9 8 d) ⌝ }
+{
+    if d & 17361641481138401520 != 0 {
+        return false;
+    }
+    (d + 434041037028460038) & 17361641481138401520 == 0
+}
+
+// The number whose digits the eight bytes are, the lowest first: they are put together in pairs, and the pairs added up.
+fn number_of(d: u64) -> u64
+    requires { ⌜ EachAtMost 9 8 d ⌝ }
+    ensures { λ r. ⌜ (r ≡ said 8 0 d) × (r ≤ 99999999) ⌝ }
+{
+    let pairs = d * 10 + d / 256;
+    let upper = (pairs % 256) * 100 + pairs / 65536 % 256;
+    let lower = (pairs / 4294967296 % 256) * 100 + pairs / 281474976710656 % 256;
+    upper * 10000 + lower
+}
+
+// The first token from `at` on, if it is a number of up to seven bytes with a space before and behind it, as nearly all are:
 // 16 times its code, and how many bytes it takes with the space before it. 0 if it is not, or if the text is about to end.
 pub fn short_at(s: &[u8], at: usize) -> u64
     requires { ⌜ at ≤ length (now s) ⌝ }
@@ -385,10 +402,28 @@ pub fn short_at(s: &[u8], at: usize) -> u64
     if s[at] != 32 {
         return 0;
     }
-    let sign = sign_of(s[at + 1]);
-    let r = unsigned(s, at + (sign as usize));
-    if r < 1 {
+    let w = eight(s, at + 1);
+    let n = before_space(w);
+    if n < 1 {
         return 0;
     }
-    r + 17 * sign
+    if 7 < n {
+        return 0;
+    }
+    if s[at + 1 + n] != 32 {
+        return 0;
+    }
+    let sign = sign_of(s[at + 1]);
+    let first = digit(s[at + 1 + (sign as usize)]);
+    if first < 1 {
+        return 0;
+    }
+    if 9 < first {
+        return 0;
+    }
+    let d = worths(w, sign, n);
+    if all_digits(d) {
+        return number_of(d) * 32 + 16 * sign + ((n + 1) as u64);
+    }
+    0
 }

@@ -28,10 +28,10 @@ wide-requires : tie.Need-wide-requires
 wide-requires c κs = search needs
 
 digits-from-requires : tie.Need-digits-from-requires
-digits-from-requires c κs = omega (arith, c .wide .ensures)
+digits-from-requires c κs = omega (arith, c .wide .ensures .0)
 
 returns-4 : tie.Need-returns-4
-returns-4 c = positive-on _ _ _ _ (c .before .before .before .before .before .if1 .left) (c .before .before .before .if2 .left) (c .before .before .if3 .left) (rw (c .before .wide .ensures) at (c .digits-from .ensures))
+returns-4 c = positive-on _ _ _ _ (c .before .before .before .before .before .if1 .left) (c .before .before .before .if2 .left) (c .before .before .if3 .left) (rw (c .before .wide .ensures .0) at (c .digits-from .ensures))
 
 pub positive-spec : {M : Type 1} → statement M
 positive-spec =
