@@ -18,7 +18,7 @@ use Rattle.clauses.specs.Codes.{literalOf, oppositeCode}
 use Rattle.clauses.proofs.Literals.{same-literal}
 use Rattle.clauses.proofs.Numbers.{cut}
 use Rattle.assignment.specs.Marks.{markOf, Shows, Paired, Marked}
-use Rattle.assignment.specs.Sight.{In, ForcedIn, Looks, Counted, Latest, OneForced, OneLooks}
+use Rattle.assignment.specs.Sight.{In, ForcedIn, Looks, Counted, Latest, Behind, OneForced, OneLooks}
 use Rattle.assignment.specs.declared.Look.{Look as Sight}
 use Rattle.assignment.specs.declared.Look.the-variants.{AllFalse, Forces, Neither}
 use Rattle.assignment.proofs.Marking.{shows-true, shows-untrue, paired-opposite}
@@ -205,11 +205,10 @@ pub record Looking (clause marks : List ℕ) (others last i : ℕ) : Type 0 wher
   pub held : OpenIn clause (openOf others last)
   pub fresh : others ≡ 0 → last ≡ unseen
   pub few : others ≤ i
-  pub within : i ≤ length clause
 
 pub looking-start : (clause marks : List ℕ) → Looking clause marks 0 unseen 0
 unfolding openOf
-looking-start clause marks = record { left = λ a s. refl; held = tt; fresh = λ e. refl; few = omega arith; within = omega arith }
+looking-start clause marks = record { left = λ a s. refl; held = tt; fresh = λ e. refl; few = omega arith }
 
 opened-in : (clause : List ℕ) (o : Open) (x mark : ℕ) → OpenIn clause o → In clause x → OpenIn clause (opened o x mark)
 opened-in clause o x mark h new =
@@ -223,7 +222,7 @@ opened-in clause o x mark h new =
     go many h = tt
 
 module _ (clause marks : List ℕ) (others last i : ℕ) (l : Looking clause marks others last i) (known : Marked clause marks) where
-  pub looking-on : i < length clause → Paired marks → (at : ℕ) → at ≡ getD clause i 0 → (r last′ : ℕ) → Counted last (getD clause i 0) (getD marks at 0) r → Latest last (getD clause i 0) (getD marks at 0) last′
+  looking-on : i < length clause → Paired marks → (at : ℕ) → at ≡ getD clause i 0 → (r last′ : ℕ) → Counted last (getD clause i 0) (getD marks at 0) r → Latest last (getD clause i 0) (getD marks at 0) last′
       → Looking clause marks (others + r) last′ (i + 1)
   unfolding openAll
   looking-on more paired at e r last′ k m =
@@ -241,8 +240,17 @@ module _ (clause marks : List ℕ) (others last i : ℕ) (l : Looking clause mar
             (λ y. absurd (omega (arith, k .another (eqb-true (getD marks at 0) 0 y) (unlike before))))
             (λ n. m .passed (eqb-false (getD marks at 0) 0 n) ∙ l .fresh before);
         few = omega (arith, k .few, l .few);
-        within = omega arith;
       }
+
+  -- The literal before i once more: it is false, or is the last that is not.
+  looking-again : length clause ≤ i → (x mark first before : ℕ) → Counted before x mark first → Latest before x mark last → (r last′ : ℕ) → Counted last x mark r → Latest last x mark last′ → Looking clause marks (others + r) last′ (i + 1)
+  looking-again end x mark first before k m r last′ k′ m′ =
+      let none : r ≡ 0 = bool-cases (eqb mark 0) (λ y. let e = eqb-true mark 0 y in k′ .again e (sym (m .taken e))) (λ n. k′ .passed (eqb-false mark 0 n)) in
+      let kept : last′ ≡ last = bool-cases (eqb mark 0) (λ y. let e = eqb-true mark 0 y in m′ .taken e ∙ sym (m .taken e)) (λ n. m′ .passed (eqb-false mark 0 n)) in
+      let same : others + r ≡ others = omega (arith, none) in
+      let past : length clause ≤ i + 1 = omega arith in
+      let nothing-left : drop (i + 1) clause ≡ drop i clause = drop-of-length-le clause past ∙ sym (drop-of-length-le clause end) in
+      rw (same, kept) record { left = λ a s. rw nothing-left (l .left a s); held = l .held; fresh = l .fresh; few = omega (arith, l .few) }
 
   all : length clause ≤ i → (a : Trail) → Shows marks a → lookAt a (map literalOf clause) ≡ concluded a (openOf others last)
   unfolding openAll
@@ -271,6 +279,20 @@ module _ (clause marks : List ℕ) (others last i : ℕ) (l : Looking clause mar
   pub looking-more : length clause ≤ i → (others ≡ 0 → ⊥) → (others ≡ 1 → ⊥) → Looks clause marks Neither
   unfolding concluded
   looking-more end some more = record { says = λ a s. all end a s ∙ ap (concluded a) (open-more others last (omega arith)); forced = tt }
+
+-- One turn: the literal at i, and the one behind it or the same once more.
+pub looking-two : (clause marks : List ℕ) (others last i : ℕ) → Looking clause marks others last i → Marked clause marks → i < length clause → Paired marks → (at : ℕ) → at ≡ getD clause i 0 → (first middle : ℕ) → Counted last (getD clause i 0) (getD marks at 0) first → Latest last (getD clause i 0) (getD marks at 0) middle
+    → (j : ℕ) → Behind i (length clause) j → (back : ℕ) → back ≡ getD clause j 0 → (second last′ : ℕ) → Counted middle (getD clause j 0) (getD marks back 0) second → Latest middle (getD clause j 0) (getD marks back 0) last′ → Looking clause marks (others + first + second) last′ (i + 2)
+looking-two clause marks others last i l known more paired at e first middle k m j b back e′ second last′ k′ m′ =
+    let one = looking-on clause marks others last i l known more paired at e first middle k m in
+    let two : i + 1 + 1 ≡ i + 2 = omega arith in
+    rw two at (⊎-elim
+    (λ some. let q : j ≡ i + 1 = b .is-next some in
+    looking-on clause marks (others + first) middle (i + 1) one known some paired back (rw q at e′) second last′ (rw q at k′) (rw q at m′))
+    (λ none. let q : j ≡ i = b .is-last none in
+    let p : back ≡ at = (rw q at e′) ∙ sym e in
+    looking-again clause marks (others + first) middle (i + 1) one known none (getD clause i 0) (getD marks at 0) first last k m second last′ (rw (q, p) at k′) (rw (q, p) at m′))
+    (cut (i + 1) (length clause)))
 
 -- One literal alone
 

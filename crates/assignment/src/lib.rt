@@ -4,7 +4,7 @@ ghost use mathlib.Core.Path.{_≡_};
 ghost use Prim.Native.Nat.{_-_, _<_};
 ghost use lib.ListN.{length};
 ghost use Rattle.assignment.specs.Marks.{Paired, Marked, Falsifies, Undoable, Undone};
-ghost use Rattle.assignment.specs.Sight.{Counted, Latest, OneLooks, Looks};
+ghost use Rattle.assignment.specs.Sight.{Counted, Latest, Behind, OneLooks, Looks};
 
 // What a look at a clause shows: all its literals are false; all but one that has no value; or neither.
 pub enum Look {
@@ -72,9 +72,19 @@ fn only_one(x: u32, marks: &[u8]) -> Look
     Look::Forces(x)
 }
 
-// Looks at a clause: all its literals are read, one turn for each. What is kept is the last literal that is not false, and how often
-// one was met that is another than the last before it: never, once however often that one is written, or more often. At first the last
-// is a number that no literal has. No branch is taken on a mark: which literals are false nobody can foretell.
+// The place behind `i`, or `i` again if that is the last one.
+fn behind(i: usize, n: usize) -> usize
+    requires { ⌜ i < n ⌝ }
+    ensures { λ r. ⌜ Behind i n r ⌝ }
+{
+    let next = i + 1;
+    if next < n { next } else { i }
+}
+
+// Looks at a clause: all its literals are read, one turn for two of them. What is kept is the last literal that is not false, and how
+// often one was met that is another than the last before it: never, once however often that one is written, or more often. At first
+// the last is a number that no literal has. No branch is taken on a mark: which literals are false nobody can foretell. Nor is
+// one on whether there is a second literal in the last turn: the first is read twice there, which tells nothing new.
 pub fn look_at(clause: &[u32], marks: &[u8]) -> Look
     requires { ⌜ Paired (now marks) ⌝ }
     requires { ⌜ Marked (now clause) (now marks) ⌝ }
@@ -87,9 +97,15 @@ pub fn look_at(clause: &[u32], marks: &[u8]) -> Look
         let x = clause[i];
         let at = clauses::cell(x);
         let mark = marks[at];
-        others = others + counted(last, x, mark);
-        last = latest(last, x, mark);
-        i += 1;
+        let y = clause[behind(i, clause.len())];
+        let back = clauses::cell(y);
+        let other = marks[back];
+        let first = counted(last, x, mark);
+        let middle = latest(last, x, mark);
+        let second = counted(middle, y, other);
+        others = others + first + second;
+        last = latest(middle, y, other);
+        i += 2;
     }
     if others == 0 {
         return Look::AllFalse;

@@ -3,7 +3,7 @@
 use Prim.Native.Nat.{_-_}
 use native.Mathlib.Omega.{arith}
 use lib.ListN.{length}
-use Rattle.assignment.proofs.Looking.{Looking, looking-start, looking-on, looking-none, looking-below, looking-one, looking-more}
+use Rattle.assignment.proofs.Looking.{Looking, looking-start, looking-two, looking-none, looking-below, looking-one, looking-more}
 use borrow.Author.Needs.{needs}
 use Rattle.assignment.proofs.look_at.Statement.{statement}
 use Rattle.assignment.proofs.look_at.Tie as tie
@@ -29,23 +29,47 @@ cell-requires c κs = search needs
 shared-slice-read-mark : tie.Need-shared-slice-read-mark Inv-loop μ-loop
 shared-slice-read-mark c = rw (c .before .cell .ensures) (c .before .before .before .before .before .before .before .pre .1 .below _ (c .before .before .before .loop-test .taken))
 
+behind-requires : tie.Need-behind-requires Inv-loop μ-loop
+behind-requires c κs = search needs
+
+mul-y : tie.Need-mul-y Inv-loop μ-loop
+mul-y c = search needs
+
+shared-slice-read-y : tie.Need-shared-slice-read-y Inv-loop μ-loop
+shared-slice-read-y c = c .before .behind .ensures .inside
+
+cell-requires-2 : tie.Need-cell-requires-2 Inv-loop μ-loop
+cell-requires-2 c κs = search needs
+
+shared-slice-read-other : tie.Need-shared-slice-read-other Inv-loop μ-loop
+shared-slice-read-other c = rw (c .before .cell2 .ensures) (c .before .before .before .before .before .before .before .before .before .before .before .pre .1 .below _ (c .before .before .before .behind .ensures .inside))
+
 counted-requires : tie.Need-counted-requires Inv-loop μ-loop
 counted-requires c κs = search needs
 
-add-others : tie.Need-add-others Inv-loop μ-loop
-add-others c = omega (arith, c .counted .ensures .few, c .before .before .before .before .before .loop .inv .few, c .before .before .before .before .loop-test .taken)
-
 latest-requires : tie.Need-latest-requires Inv-loop μ-loop
 latest-requires c κs = search needs
+
+counted-requires-2 : tie.Need-counted-requires-2 Inv-loop μ-loop
+counted-requires-2 c κs = search needs
+
+add-others : tie.Need-add-others Inv-loop μ-loop
+add-others c = omega (arith, c .before .before .counted .ensures .few, c .before .before .before .before .before .before .before .before .before .before .before .loop .inv .few, c .before .before .before .before .before .before .before .before .before .before .loop-test .taken)
+
+add-others-2 : tie.Need-add-others-2 Inv-loop μ-loop
+add-others-2 c = omega (arith, c .before .before .counted .ensures .few, c .counted2 .ensures .few, c .before .before .before .before .before .before .before .before .before .before .before .loop .inv .few, c .before .before .before .before .before .before .before .before .before .before .loop-test .taken)
+
+latest-requires-2 : tie.Need-latest-requires-2 Inv-loop μ-loop
+latest-requires-2 c κs = search needs
 
 add-i : tie.Need-add-i Inv-loop μ-loop
 add-i c = search needs
 
 loop-less : tie.Need-loop-less Inv-loop μ-loop
-loop-less c = omega (arith, c .before .before .before .before .before .loop-test .taken)
+loop-less c = omega (arith, c .before .before .before .before .before .before .before .before .before .before .before .loop-test .taken)
 
 loop-again : tie.Need-loop-again Inv-loop μ-loop
-loop-again c = looking-on _ _ _ _ _ (c .before .before .before .before .before .before .loop .inv) (c .before .before .before .before .before .before .before .before .before .pre .1) (c .before .before .before .before .before .loop-test .taken) (c .before .before .before .before .before .before .before .before .before .pre .0) _ (c .before .before .before .cell .ensures) _ _ (c .before .counted .ensures) (c .latest .ensures)
+loop-again c = looking-two _ _ _ _ _ (c .before .before .before .before .before .before .before .before .before .before .before .before .loop .inv) (c .before .before .before .before .before .before .before .before .before .before .before .before .before .before .before .pre .1) (c .before .before .before .before .before .before .before .before .before .before .before .loop-test .taken) (c .before .before .before .before .before .before .before .before .before .before .before .before .before .before .before .pre .0) _ (c .before .before .before .before .before .before .before .before .before .cell .ensures) _ _ (c .before .before .before .counted .ensures) (c .before .before .latest .ensures) _ (c .before .before .before .before .before .before .before .behind .ensures) _ (c .before .before .before .before .before .cell2 .ensures) _ _ (c .before .counted2 .ensures) (c .latest2 .ensures)
 
 returns : tie.Need-returns Inv-loop μ-loop
 returns c = looking-none _ _ _ _ _ (c .before .before .loop .inv) (c .before .before .before .before .before .pre .1) (c .before .loop-test .left) (c .if1 .taken)
@@ -70,9 +94,17 @@ look-at-spec =
     shared-slice-read-x
     cell-requires
     shared-slice-read-mark
+    behind-requires
+    mul-y
+    shared-slice-read-y
+    cell-requires-2
+    shared-slice-read-other
     counted-requires
-    add-others
     latest-requires
+    counted-requires-2
+    add-others
+    add-others-2
+    latest-requires-2
     add-i
     loop-less
     loop-again
