@@ -27,6 +27,12 @@ startAt heads k = getD heads (3 * k + 1) 0 + 4294967296 * getD heads (3 * k + 2)
 abbrev pub RoomFor : List ℕ → ℕ → Type 0
 RoomFor heads n = 3 * n + 2 < length heads
 
+-- The k-th clause lies within the two lists.
+pub record Placed (heads lits : List ℕ) (k : ℕ) : Type 0 where
+  pub room : RoomFor heads (k + 1)
+  pub ordered : startAt heads k ≤ startAt heads (k + 1)
+  pub inside : startAt heads (k + 1) ≤ length lits
+
 -- The heads with one clause more, which is the n-th and ends at `end`.
 unfoldable pub written : List ℕ → ℕ → ℕ → ℕ → List ℕ
 written heads n head end = set (set (set heads (3 * n) head) (3 * n + 4) (end % 4294967296)) (3 * n + 5) (end / 4294967296)

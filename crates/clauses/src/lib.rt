@@ -2,7 +2,7 @@
 // deleted clauses give their room back. specs/Store.antt says which live clauses two slices hold. Nothing is promised of
 // slices that hold no store; that what a function leaves is a store again is said by laws in proofs/, not by its contract.
 ghost use mathlib.Core.Path.{_≡_};
-ghost use Prim.Native.Nat.{_+_, _-_, _*_, _/_, _%_, _<_, _≤_, _^_};
+ghost use Prim.Native.Nat.{_+_, _-_, _*_, _/_, _%_, _<_, _≤_, _^_, min};
 ghost use lib.ListN.{length};
 ghost use Rattle.clauses.specs.Codes.{oppositeCode};
 ghost use Rattle.clauses.specs.Counting.{Counts};
@@ -52,7 +52,7 @@ pub fn count(x: usize) -> u64
 }
 
 // A number of 32 bits, as one of 64.
-fn wide(x: u32) -> u64
+pub fn wide(x: u32) -> u64
     ensures { λ r. ⌜ r ≡ x ⌝ }
 {
     x as u64
@@ -75,6 +75,13 @@ pub fn plus(turns: u64, more: u64) -> u64
         return 18446744073709551615;
     }
     turns + more
+}
+
+// The smaller of two numbers.
+pub fn smaller(x: u64, y: u64) -> u64
+    ensures { λ r. ⌜ r ≡ min x y ⌝ }
+{
+    if x < y { x } else { y }
 }
 
 // The opposite of a literal.

@@ -13,11 +13,11 @@ use Rattle.meaning.specs.Meaning.{Literal, Clause}
 use Rattle.meaning.proofs.Truth.{bool-cases}
 use Rattle.rules.specs.Judging.{Live, among, containing, groups, mismatch, leading}
 use Rattle.clauses.specs.Codes.{literalOf, hintOf}
-use Rattle.clauses.specs.Store.{idAt, startAt, clauseAt, entryAt, liveOf}
+use Rattle.clauses.specs.Store.{idAt, startAt, Placed, clauseAt, entryAt, liveOf}
 use Rattle.clauses.proofs.Parts.{part-slice}
 use Rattle.clauses.specs.Moving.{Stored}
 use Rattle.clauses.proofs.Entries.{entry-live, entry-deleted, clause-is, live-suc, live-none, start-below}
-use Rattle.groups.specs.Matching.{GroupAt, NextGroup, groupsFrom, Placed, literalsAt, literalsOf, ExaminedCase, Examined, TakesGroup, PassedOn, PassedNot, PassesCase, Passes, Finishes, Comes, Walked, OneDiffers, Matches}
+use Rattle.groups.specs.Matching.{GroupAt, NextGroup, groupsFrom, literalsAt, literalsOf, ExaminedCase, Examined, TakesGroup, PassedOn, PassedNot, PassesCase, Passes, Finishes, Comes, Walked, OneDiffers, Matches}
 use Rattle.groups.specs.declared.Passed.{Passed}
 use Rattle.groups.specs.declared.Passed.the-variants.{On, Differs}
 use Rattle.groups.specs.declared.Matched.{Matched}

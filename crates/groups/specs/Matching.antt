@@ -9,7 +9,7 @@ use lib.Dec.{eqb}
 use lib.ListN.{length, getD, drop}
 use Rattle.rules.specs.Judging.{Live, containing, groups, mismatch}
 use Rattle.clauses.specs.Codes.{literalOf, hintOf}
-use Rattle.clauses.specs.Store.{idAt, startAt, RoomFor, entryAt, Holds}
+use Rattle.clauses.specs.Store.{idAt, startAt, entryAt, Holds}
 use Rattle.groups.specs.declared.Passed.{Passed}
 use Rattle.groups.specs.declared.Passed.the-variants.{On, Differs}
 use Rattle.groups.specs.declared.Matched.{Matched}
@@ -33,12 +33,6 @@ pub record NextGroup (hints : List ℕ) (from place : ℕ) : Type 0 where
 -- The groups that begin from `at` on.
 abbrev pub groupsFrom : List ℕ → ℕ → List (ℕ × List ℕ)
 groupsFrom hints at = groups (map hintOf (drop at hints))
-
--- The k-th clause lies within the two lists.
-pub record Placed (heads lits : List ℕ) (k : ℕ) : Type 0 where
-  pub room : RoomFor heads (k + 1)
-  pub ordered : startAt heads k ≤ startAt heads (k + 1)
-  pub inside : startAt heads (k + 1) ≤ length lits
 
 -- How many literals the k-th clause has, if it is live.
 unfoldable pub literalsAt : List ℕ → ℕ → ℕ

@@ -4,13 +4,14 @@
 ghost use mathlib.Core.Path.{_≡_};
 ghost use mathlib.Core.Bool.{_||_};
 ghost use mathlib.Core.List.{map};
-ghost use Prim.Native.Nat.{_+_, _-_, _/_, _<_, _≤_, _^_, min};
+ghost use Prim.Native.Nat.{_+_, _-_, _/_, _<_, _≤_, _^_};
 ghost use lib.Dec.{eqb};
 ghost use lib.ListN.{length};
 ghost use Rattle.rules.specs.Judging.{among};
 ghost use Rattle.clauses.specs.Codes.{literalOf};
 ghost use Rattle.clauses.specs.Moving.{Stored};
-ghost use Rattle.groups.specs.Matching.{NextGroup, GroupAt, Placed, Examined, TakesGroup, literalsAt, Passes, Finishes, Matches};
+ghost use Rattle.clauses.specs.Store.{Placed};
+ghost use Rattle.groups.specs.Matching.{NextGroup, GroupAt, Examined, TakesGroup, literalsAt, Passes, Finishes, Matches};
 
 // Whether the groups are those that they must be; if not, the id at fault. And the turns that it took to find out.
 pub enum Matched {
@@ -89,13 +90,6 @@ fn examine(heads: &[u32], lits: &[u32], k: usize, q: u32) -> Candidate
     }
 }
 
-// The smaller of two numbers.
-fn smaller(x: u64, y: u64) -> u64
-    ensures { λ r. ⌜ r ≡ min x y ⌝ }
-{
-    if x < y { x } else { y }
-}
-
 // The group at `at` must be that of the clause `id`. Counts a turn for each hint that is passed, the group's beginning included.
 fn take_group(id: u64, hints: &[u32], at: usize, turns: u64) -> Passed
     requires { ⌜ GroupAt (now hints) at ⌝ }
@@ -111,7 +105,7 @@ fn take_group(id: u64, hints: &[u32], at: usize, turns: u64) -> Passed
     let d = clauses::half(hints[at]);
     if id != d {
         return Passed::Differs {
-            id: smaller(id, d),
+            id: clauses::smaller(id, d),
             turns: turns,
         };
     }

@@ -89,13 +89,6 @@ struct Passed {
     end: usize,
 }
 
-// The lesser of two numbers.
-fn least(x: u64, y: u64) -> u64
-    ensures { λ r. ⌜ (r ≤ x) × (r ≤ y) ⌝ }
-{
-    if x < y { x } else { y }
-}
-
 // Takes short numbers one after the other from `from` on, as long as their codes are below `limit` and there is room for them
 // in the slice from `first` on. Nearly all tokens of a proof in use are taken here; whatever is not as expected is left to
 // `feed`, which decides.
@@ -151,7 +144,7 @@ fn go_on(
             next: from,
         },
         Kind::Literals => {
-            let limit = least(clauses::count(cells), 33554432);
+            let limit = clauses::smaller(clauses::count(cells), 33554432);
             let p = along(s, from, phase.end, limit, lits);
             let end = p.end;
             let now = Phase {

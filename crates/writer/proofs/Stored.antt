@@ -11,10 +11,10 @@ use lib.Seq.{drop-cons, getD-at}
 use Rattle.meaning.proofs.Truth.{bool-cases}
 use Rattle.rules.specs.Written.{writeClause, writeClauses}
 use Rattle.clauses.specs.Codes.{literalOf}
-use Rattle.clauses.specs.Store.{startAt, clauseAt, clausesOf, Store}
+use Rattle.clauses.specs.Store.{startAt, Placed, clauseAt, clausesOf, Store}
 use Rattle.clauses.proofs.Holding.{clauses-length}
 use Rattle.clauses.proofs.Parts.{part-slice}
-use Rattle.writer.specs.Text.{Room, Formed, Placed, Counted, WroteCounted}
+use Rattle.writer.specs.Text.{Room, Formed, Counted, WroteCounted}
 use Rattle.writer.proofs.Texts.{Parts, Going, going-start, going-room, going-same, going-on, going-end, room-first, wrote-none}
 
 -- A store of clauses is formed as the writer asks.

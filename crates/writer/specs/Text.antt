@@ -40,12 +40,6 @@ pub record Formed (heads lits : List ℕ) (n : ℕ) : Type 0 where
   pub ordered : (k : ℕ) → k < n → startAt heads k ≤ startAt heads (k + 1)
   pub inside : startAt heads n ≤ length lits
 
--- The k-th clause lies within the two slices.
-pub record Placed (heads lits : List ℕ) (k : ℕ) : Type 0 where
-  pub room : RoomFor heads (k + 1)
-  pub ordered : startAt heads k ≤ startAt heads (k + 1)
-  pub inside : startAt heads (k + 1) ≤ length lits
-
 -- What the first line begins with, and the first line as a whole.
 unfoldable pub lineStart : List ℕ
 lineStart = bytes "p cnf "

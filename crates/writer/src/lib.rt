@@ -14,8 +14,8 @@ ghost use Prim.Native.Nat.{_+_, _*_, _<_, _≤_, _^_};
 ghost use lib.ListN.{length};
 ghost use Rattle.rules.specs.Written.{decimal, writeLiteral, writeClause, writeClauses};
 ghost use Rattle.clauses.specs.Codes.{literalOf};
-ghost use Rattle.clauses.specs.Store.{clauseAt, clausesOf};
-ghost use Rattle.writer.specs.Text.{Sized, Room, Wrote, Filled, Formed, Placed, lineStart, firstLine, formulaOf, lengthOf, WroteCounted, WroteFormula, Measured, LineDigits, Answers};
+ghost use Rattle.clauses.specs.Store.{Placed, clauseAt, clausesOf};
+ghost use Rattle.writer.specs.Text.{Sized, Room, Wrote, Filled, Formed, lineStart, firstLine, formulaOf, lengthOf, WroteCounted, WroteFormula, Measured, LineDigits, Answers};
 
 // Where a text ends that was written, and how many turns the loops made that wrote it.
 pub struct Written {
@@ -92,29 +92,16 @@ pub fn write_number(out: &mut [u8], at: usize, v: u64) -> usize
     end
 }
 
-// A cast that is a function of its own asks nothing of the code around it: so here, and in `long`.
-fn wide(x: u32) -> u64
-    ensures { λ r. ⌜ r ≡ x ⌝ }
-{
-    x as u64
-}
-
 // Writes a literal: a minus sign if it says that its variable is false, and the variable's number.
 fn write_literal(out: &mut [u8], at: usize, code: u32) -> usize
     requires { ⌜ Room (now out) at (writeLiteral (literalOf code)) ⌝ }
     ensures { λ r. ⌜ Wrote (now (out .entry)) at (writeLiteral (literalOf code)) (now (out .exit)) r ⌝ }
 {
     if code % 2 == 0 {
-        return write_number(out, at, wide(code / 2));
+        return write_number(out, at, clauses::wide(code / 2));
     }
     let next = write_byte(out, at, 45);
-    write_number(out, next, wide(code / 2))
-}
-
-fn long(x: usize) -> u64
-    ensures { λ r. ⌜ r ≡ x ⌝ }
-{
-    x as u64
+    write_number(out, next, clauses::wide(code / 2))
 }
 
 // Writes a clause: each literal and a space, then `0` and a line feed. A literal counts as the loop's own turn and two for each
@@ -128,7 +115,7 @@ fn write_clause(out: &mut [u8], at: usize, clause: &[u32]) -> Written
     let mut i = 0;
     while i < clause.len() {
         let next = write_literal(out, place, clause[i]);
-        turns += 1 + 2 * long(next - place);
+        turns += 1 + 2 * clauses::count(next - place);
         place = write_byte(out, next, 32);
         i += 1;
     }
@@ -198,7 +185,7 @@ fn write_first_line(out: &mut [u8], vars: u64, clauses: u64) -> Written
     let end = write_byte(out, feed, 10);
     Written {
         end: end,
-        turns: 2 * long(space - first) + 2 * long(feed - second),
+        turns: 2 * clauses::count(space - first) + 2 * clauses::count(feed - second),
     }
 }
 
@@ -208,7 +195,7 @@ pub fn write_formula(heads: &[u32], lits: &[u32], n: usize, vars: u64, out: &mut
     requires { ⌜ lengthOf (now heads) (now lits) n vars ≤ length (now out) ⌝ }
     ensures { λ r. ⌜ WroteFormula (formulaOf (now (heads .entry)) (now (lits .entry)) n vars) (now (out .entry)) (now (out .exit)) (r .end) (r .turns) ⌝ }
 {
-    let line = write_first_line(out, vars, long(n));
+    let line = write_first_line(out, vars, clauses::count(n));
     let place = line.end;
     let rest = write_clauses(heads, lits, n, out, place);
     Written {
@@ -221,7 +208,7 @@ pub fn write_formula(heads: &[u32], lits: &[u32], n: usize, vars: u64, out: &mut
 fn literal_length(code: u32) -> usize
     ensures { λ r. ⌜ Sized (writeLiteral (literalOf code)) r 21 ⌝ }
 {
-    let digits = digits_in(wide(code / 2));
+    let digits = digits_in(clauses::wide(code / 2));
     if 0 < code % 2 {
         return digits + 1;
     }
@@ -240,7 +227,7 @@ fn add_clause(clause: &[u32], before: usize, room: usize) -> Sum
     while i < clause.len() {
         let bytes = literal_length(clause[i]) + 1;
         total += bytes;
-        turns += long(bytes);
+        turns += clauses::count(bytes);
         if room < total {
             return Sum {
                 total: total,
@@ -306,9 +293,9 @@ pub fn written_length(heads: &[u32], lits: &[u32], n: usize, vars: u64, room: us
     requires { ⌜ room < 2 ^ 63 ⌝ }
     ensures { λ r. ⌜ Answers (lengthOf (now (heads .entry)) (now (lits .entry)) n vars) room r ⌝ }
 {
-    let digits = line_digits(vars, long(n));
+    let digits = line_digits(vars, clauses::count(n));
     let line = digits + 8;
-    let spent = long(digits);
+    let spent = clauses::count(digits);
     if room < line {
         return Fit::TooLong { turns: spent };
     }

@@ -17,8 +17,8 @@ enum-told-3 c = search needs
 count-requires : tie.Need-count-requires
 count-requires c κs = search needs
 
-least-requires : tie.Need-least-requires
-least-requires c κs = search needs
+smaller-requires : tie.Need-smaller-requires
+smaller-requires c κs = search needs
 
 along-requires : tie.Need-along-requires
 along-requires c κs = search needs
@@ -42,7 +42,7 @@ same-length : tie.Need-same-length
 same-length c = search needs
 
 returns-3 : tie.Need-returns-3
-returns-3 c = onward-literals _ _ _ _ _ _ _ _ _ _ (c .before .before .before .before .before .before .enum-told3 .given .1) (omega (arith, c .before .before .before .before .least .ensures .0, c .before .before .before .before .before .count .ensures)) (omega (arith, c .before .before .before .before .least .ensures .1)) (c .before .before .along .ensures)
+returns-3 c = onward-literals _ _ _ _ _ _ _ _ _ _ (c .before .before .before .before .before .before .enum-told3 .given .1) (omega (arith, c .before .before .before .before .smaller .ensures, c .before .before .before .before .before .count .ensures)) (omega (arith, c .before .before .before .before .smaller .ensures)) (c .before .before .along .ensures)
 
 same-length-2 : tie.Need-same-length-2
 same-length-2 c = search needs
@@ -61,7 +61,7 @@ go-on-spec =
     enum-told-2
     enum-told-3
     count-requires
-    least-requires
+    smaller-requires
     along-requires
     enum-told-4
     along-requires-2

@@ -31,8 +31,8 @@ add-bytes c = search needs
 add-total : tie.Need-add-total Inv-loop μ-loop
 add-total c = search needs
 
-long-requires : tie.Need-long-requires Inv-loop μ-loop
-long-requires c κs = search needs
+count-requires : tie.Need-count-requires Inv-loop μ-loop
+count-requires c κs = search needs
 
 add-turns : tie.Need-add-turns Inv-loop μ-loop
 add-turns c = search needs
@@ -41,7 +41,7 @@ returns : tie.Need-returns Inv-loop μ-loop
 returns c =
     let literal = c .before .before in
     let turn = literal .before .before in
-    adding-over (turn .before .loop .inv) (turn .loop-test .taken) (literal .literal-length .ensures) (c .before .long .ensures) (c .if1 .taken)
+    adding-over (turn .before .loop .inv) (turn .loop-test .taken) (literal .literal-length .ensures) (c .before .count .ensures) (c .if1 .taken)
 
 add-i : tie.Need-add-i Inv-loop μ-loop
 add-i c = search needs
@@ -53,7 +53,7 @@ loop-again : tie.Need-loop-again Inv-loop μ-loop
 loop-again c =
     let literal = c .before .before in
     let turn = literal .before .before in
-    adding-on (turn .before .loop .inv) (turn .loop-test .taken) (literal .literal-length .ensures) (c .before .long .ensures) (c .if1 .left)
+    adding-on (turn .before .loop .inv) (turn .loop-test .taken) (literal .literal-length .ensures) (c .before .count .ensures) (c .if1 .left)
 
 add-t14 : tie.Need-add-t14 Inv-loop μ-loop
 add-t14 c = search needs
@@ -73,7 +73,7 @@ add-clause-spec =
     literal-length-requires
     add-bytes
     add-total
-    long-requires
+    count-requires
     add-turns
     returns
     add-i

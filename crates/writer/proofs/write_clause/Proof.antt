@@ -29,14 +29,14 @@ write-literal-requires c κs =
     let turn = c .before .before in
     writing-room (turn .before .loop .inv) (turn .loop-test .taken)
 
-sub-long : tie.Need-sub-long Inv-loop μ-loop
-sub-long c =
+sub-count : tie.Need-sub-count Inv-loop μ-loop
+sub-count c =
     let literal = c .before .before in
     let turn = literal .before .before .before in
     writing-forward (turn .before .loop .inv) (turn .loop-test .taken) (literal .write-literal .ensures)
 
-long-requires : tie.Need-long-requires Inv-loop μ-loop
-long-requires c κs = search needs
+count-requires : tie.Need-count-requires Inv-loop μ-loop
+count-requires c κs = search needs
 
 mul-turns : tie.Need-mul-turns Inv-loop μ-loop
 mul-turns c =
@@ -75,7 +75,7 @@ loop-again c =
     let spent = space .before .before in
     let literal = spent .before .before .before in
     let turn = literal .before .before .before in
-    writing-on (turn .before .loop .inv) (turn .loop-test .taken) (literal .write-literal .ensures) (space .write-byte .ensures) (spent .long .ensures)
+    writing-on (turn .before .loop .inv) (turn .loop-test .taken) (literal .write-literal .ensures) (space .write-byte .ensures) (spent .count .ensures)
 
 write-byte-requires-2 : tie.Need-write-byte-requires-2 Inv-loop μ-loop
 write-byte-requires-2 c κs =
@@ -110,8 +110,8 @@ write-clause-spec =
     mul-write-literal
     shared-slice-read-write-literal
     write-literal-requires
-    sub-long
-    long-requires
+    sub-count
+    count-requires
     mul-turns
     add-turns
     add-turns-2

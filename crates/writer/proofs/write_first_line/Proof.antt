@@ -41,11 +41,11 @@ write-byte-requires-2 c κs =
     let begin = word .before .before .before in
     feed-room _ _ (begin .pre) (word .write-line-start .ensures) (number .write-number .ensures) (blank .write-byte .ensures) (count .write-number2 .ensures)
 
-sub-long : tie.Need-sub-long
-sub-long c = search needs
+sub-count : tie.Need-sub-count
+sub-count c = search needs
 
-long-requires : tie.Need-long-requires
-long-requires c κs = search needs
+count-requires : tie.Need-count-requires
+count-requires c κs = search needs
 
 mul-t21 : tie.Need-mul-t21
 mul-t21 c =
@@ -56,11 +56,11 @@ mul-t21 c =
     let begin = word .before .before .before in
     omega (arith, feed-below _ _ (begin .pre) (word .write-line-start .ensures) (number .write-number .ensures) (blank .write-byte .ensures) (count .write-number2 .ensures), begin .good)
 
-sub-long-2 : tie.Need-sub-long-2
-sub-long-2 c = search needs
+sub-count-2 : tie.Need-sub-count-2
+sub-count-2 c = search needs
 
-long-requires-2 : tie.Need-long-requires-2
-long-requires-2 c κs = search needs
+count-requires-2 : tie.Need-count-requires-2
+count-requires-2 c κs = search needs
 
 mul-t24 : tie.Need-mul-t24
 mul-t24 c =
@@ -88,7 +88,7 @@ returns c =
     let number = blank .before .before .before .before in
     let word = number .before .before .before .before in
     let begin = word .before .before .before in
-    line-wrote _ _ (begin .pre) (word .write-line-start .ensures) (number .write-number .ensures) (blank .write-byte .ensures) (count .write-number2 .ensures) (feed .write-byte2 .ensures) (c .before .long .ensures) (c .long2 .ensures)
+    line-wrote _ _ (begin .pre) (word .write-line-start .ensures) (number .write-number .ensures) (blank .write-byte .ensures) (count .write-number2 .ensures) (feed .write-byte2 .ensures) (c .before .count .ensures) (c .count2 .ensures)
 
 same-length : tie.Need-same-length
 same-length c =
@@ -104,11 +104,11 @@ write-first-line-spec =
     write-byte-requires
     write-number-requires-2
     write-byte-requires-2
-    sub-long
-    long-requires
+    sub-count
+    count-requires
     mul-t21
-    sub-long-2
-    long-requires-2
+    sub-count-2
+    count-requires-2
     mul-t24
     add-t25
     same-length

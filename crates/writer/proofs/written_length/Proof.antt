@@ -4,8 +4,8 @@ use borrow.Author.Needs.{needs}
 use Rattle.writer.proofs.written_length.Statement.{statement}
 use Rattle.writer.proofs.written_length.Tie as tie
 
-long-requires : tie.Need-long-requires
-long-requires c κs = search needs
+count-requires : tie.Need-count-requires
+count-requires c κs = search needs
 
 line-digits-requires : tie.Need-line-digits-requires
 line-digits-requires c κs = search needs
@@ -13,13 +13,13 @@ line-digits-requires c κs = search needs
 add-line : tie.Need-add-line
 add-line c = search needs
 
-long-requires-2 : tie.Need-long-requires-2
-long-requires-2 c κs = search needs
+count-requires-2 : tie.Need-count-requires-2
+count-requires-2 c κs = search needs
 
 returns : tie.Need-returns
 returns c =
     let spent = c .before in
-    line-too-long _ _ _ _ (spent .before .line-digits .ensures) (spent .before .before .long .ensures) (spent .long2 .ensures) (c .if1 .taken)
+    line-too-long _ _ _ _ (spent .before .line-digits .ensures) (spent .before .before .count .ensures) (spent .count2 .ensures) (c .if1 .taken)
 
 add-clauses-requires : tie.Need-add-clauses-requires
 add-clauses-requires c κs = search needs
@@ -31,22 +31,22 @@ returns-2 : tie.Need-returns-2
 returns-2 c =
     let sum = c .before .before in
     let spent = sum .before .before in
-    sum-too-long _ _ _ _ (spent .before .line-digits .ensures) (spent .before .before .long .ensures) (spent .long2 .ensures) (sum .add-clauses .ensures) (c .if2 .taken)
+    sum-too-long _ _ _ _ (spent .before .line-digits .ensures) (spent .before .before .count .ensures) (spent .count2 .ensures) (sum .add-clauses .ensures) (c .if2 .taken)
 
 returns-3 : tie.Need-returns-3
 returns-3 c =
     let sum = c .before .before in
     let spent = sum .before .before in
-    sum-whole _ _ _ _ (spent .before .line-digits .ensures) (spent .before .before .long .ensures) (spent .long2 .ensures) (sum .add-clauses .ensures) (c .if2 .left)
+    sum-whole _ _ _ _ (spent .before .line-digits .ensures) (spent .before .before .count .ensures) (spent .count2 .ensures) (sum .add-clauses .ensures) (c .if2 .left)
 
 pub written-length-spec : {M : Type 1} → statement M
 written-length-spec =
     tie.close
     (tie.spec
-    long-requires
+    count-requires
     line-digits-requires
     add-line
-    long-requires-2
+    count-requires-2
     returns
     add-clauses-requires
     add-turns
