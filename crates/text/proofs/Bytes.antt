@@ -22,7 +22,8 @@ some-bytes : (k : ℕ) → 0 < 256 ^ k
 some-bytes zero = omega arith
 some-bytes (suc k) = let r = some-bytes k in omega (arith, pow-suc 256 k)
 
-pub low-bytes : (k x : ℕ) → x % 256 ^ suc k ≡ (x / 256 % 256 ^ k) * 256 + x % 256
+-- The lowest k + 1 bytes are the lowest one and k of the rest.
+low-bytes : (k x : ℕ) → x % 256 ^ suc k ≡ (x / 256 % 256 ^ k) * 256 + x % 256
 low-bytes k x = ap (λ (c : ℕ). x % c) (pow-suc 256 k) ∙ mod-mul x (some-bytes k) (omega arith)
 
 module _ (k x : ℕ) where
@@ -63,6 +64,8 @@ bytes-small : (s : List ℕ) (at k : ℕ) → ((i : ℕ) → at ≤ i → i < at
 unfolding bytesAt
 bytes-small s at zero h = omega arith
 bytes-small s at (suc k) h = let r = bytes-small s (at + 1) k (λ i l g. h i (omega arith) (omega arith)) in omega (arith, r, h at (omega arith) (omega arith), pow-suc 256 k)
+
+-- Bytes that were read, one above the other.
 
 pub one-byte : (s : List ℕ) (at b : ℕ) → (b ≡ getD s at 0) × (b < 256) → Bytes s at 1 b
 unfolding bytesAt
@@ -182,6 +185,7 @@ module _ (x : ℕ) (a : x % 256 ≤ 9) (b : x / 256 % 256 ≤ 9) where
   pair-rest : (x * 10 + x / 256) / 256 ≡ x / 256 * 10 + x / 256 / 256
   pair-rest = omega arith
 
+-- Eight digits in pairs, and one after the other.
 sums : (a b c d e f g h : ℕ) → ((a * 10 + b) * 100 + (c * 10 + d)) * 10000 + ((e * 10 + f) * 100 + (g * 10 + h)) ≡ (((((((0 * 10 + a) * 10 + b) * 10 + c) * 10 + d) * 10 + e) * 10 + f) * 10 + g) * 10 + h
 sums a b c d e f g h = omega arith
 

@@ -135,7 +135,8 @@ pub record Bytes (s : List ℕ) (at k r : ℕ) : Type 0 where
   pub is : r ≡ bytesAt s at k
   pub bytes : (i : ℕ) → at ≤ i → i < at + k → getD s i 0 < 256
 
--- How far the bytes of w are above eight digits 0, the lowest of them above 3 less if there is a sign; moved up so that n are left.
+-- How far the bytes of w are above eight digits 0, the lowest above 3 less than that if there is a sign; moved up so that n of
+-- them are left.
 pub record MovedUp (w sign n r : ℕ) : Type 0 where
   pub difference : ℕ
   pub is : (difference + (3472328296227680304 - 3 * sign)) % 2 ^ 64 ≡ w
@@ -146,6 +147,7 @@ abbrev pub EachUpTo : ℕ → ℕ → ℕ → Type 0
 EachUpTo m zero x = Unit {0}
 EachUpTo m (suc k) x = (x % 256 ≤ m) × EachUpTo m k (x / 256)
 
+-- The same, in the form of a contract.
 pub record EachAtMost (m k x : ℕ) : Type 0 where
   pub each : EachUpTo m k x
 

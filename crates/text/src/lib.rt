@@ -354,7 +354,7 @@ fn cell(x: u32) -> usize
 // How many of eight bytes probably stand before the first space: before the first byte behind the lowest that has not the bit
 // which all digits have and a space has not. Any number will do, since it is looked at whether there is a space.
 fn before_space(w: u64) -> usize {
-    let gaps = (18446744073709551615 - w) & 1157442765409226752;
+    let gaps = (0xffff_ffff_ffff_ffff - w) & 0x1010_1010_1010_1000;
     cell(u64::trailing_zeros(gaps) / 8)
 }
 
@@ -365,7 +365,7 @@ fn worths(w: u64, sign: u64, n: usize) -> u64
     requires { ⌜ sign ≤ 1 ⌝ }
     ensures { λ r. ⌜ MovedUp w sign n r ⌝ }
 {
-    let difference = std::num::wrapping_sub_u64(w, 3472328296227680304 - 3 * sign);
+    let difference = std::num::wrapping_sub_u64(w, 0x3030_3030_3030_3030 - 3 * sign);
     difference << (64 - 8 * (n as u64))
 }
 
@@ -373,10 +373,10 @@ fn worths(w: u64, sign: u64, n: usize) -> u64
 fn all_digits(d: u64) -> bool
     ensures { λ r. ⌜ Tells r (EachAtMost 9 8 d) ⌝ }
 {
-    if d & 17361641481138401520 != 0 {
+    if d & 0xf0f0_f0f0_f0f0_f0f0 != 0 {
         return false;
     }
-    (d + 434041037028460038) & 17361641481138401520 == 0
+    (d + 0x0606_0606_0606_0606) & 0xf0f0_f0f0_f0f0_f0f0 == 0
 }
 
 // The number whose digits the eight bytes are, the lowest first: they are put together in pairs, and the pairs added up.
