@@ -320,27 +320,19 @@ fn sign_of(b: u8) -> u64
     if b == 45 { 1 } else { 0 }
 }
 
-// One byte, as a number of 64 bits.
-fn byte(s: &[u8], at: usize) -> u64
-    requires { ⌜ at < length (now s) ⌝ }
-    ensures { λ r. ⌜ (r ≡ getD (now (s .entry)) at 0) × (r < 256) ⌝ }
-{
-    wide(s[at])
-}
-
 // Eight bytes as one number, the first of them lowest. In this form, and not as a sum, it is compiled to one load.
 fn eight(s: &[u8], at: usize) -> u64
     requires { ⌜ at + 7 < length (now s) ⌝ }
     ensures { λ r. ⌜ Bytes (now (s .entry)) at 8 r ⌝ }
 {
-    let b0 = byte(s, at);
-    let b1 = byte(s, at + 1);
-    let b2 = byte(s, at + 2);
-    let b3 = byte(s, at + 3);
-    let b4 = byte(s, at + 4);
-    let b5 = byte(s, at + 5);
-    let b6 = byte(s, at + 6);
-    let b7 = byte(s, at + 7);
+    let b0 = wide(s[at]);
+    let b1 = wide(s[at + 1]);
+    let b2 = wide(s[at + 2]);
+    let b3 = wide(s[at + 3]);
+    let b4 = wide(s[at + 4]);
+    let b5 = wide(s[at + 5]);
+    let b6 = wide(s[at + 6]);
+    let b7 = wide(s[at + 7]);
     b0 | b1 << 8 | b2 << 16 | b3 << 24 | b4 << 32 | b5 << 40 | b6 << 48 | b7 << 56
 }
 
