@@ -58,7 +58,6 @@ fn in_parts(file: &File, length: usize, threads: usize) -> Option<Vec<u8>> {
     // One byte more lets the reading of what is behind notice the end without growing.
     let mut bytes = zeroed::<u8>(length.checked_add(1)?)?;
     bytes.truncate(length);
-    in_large_pages(&mut bytes);
     let part = length.div_ceil(threads);
     let whole = thread::scope(|scope| {
         let readers: Vec<_> = bytes
@@ -74,30 +73,6 @@ fn in_parts(file: &File, length: usize, threads: usize) -> Option<Vec<u8>> {
     });
     whole.then_some(bytes)
 }
-
-/// The size of a large page; where it is another one, the system takes what it can.
-const LARGE_PAGE: usize = 2 << 20;
-
-/// Asks the system for large pages, for memory that is about to be filled: to hand it out in small ones takes longer than to read.
-/// It is a wish: whether it is granted is not asked, and nothing depends on it.
-#[cfg(target_os = "linux")]
-fn in_large_pages(bytes: &mut [u8]) {
-    use std::ffi::{c_int, c_void};
-    extern "C" {
-        fn madvise(start: *mut c_void, length: usize, advice: c_int) -> c_int;
-    }
-    const MADV_HUGEPAGE: c_int = 14;
-    let all = bytes.as_mut_ptr_range();
-    let start = (all.start as usize).next_multiple_of(LARGE_PAGE);
-    let end = all.end as usize / LARGE_PAGE * LARGE_PAGE;
-    if start < end {
-        // SAFETY: the pages from `start` to `end` belong to `bytes` alone, and this advice leaves what they hold as it is.
-        unsafe { madvise(start as *mut c_void, end - start, MADV_HUGEPAGE) };
-    }
-}
-
-#[cfg(not(target_os = "linux"))]
-fn in_large_pages(_: &mut [u8]) {}
 
 /// What is left of the file behind its first bytes, which is nothing unless it grew.
 fn behind(mut file: File, name: &OsStr, bytes: Vec<u8>) -> Result<Input, Failure> {
