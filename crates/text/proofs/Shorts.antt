@@ -12,7 +12,7 @@ use lib.ListN.{length, drop, getD}
 use Rattle.meaning.proofs.Truth.{bool-cases}
 use Rattle.rules.specs.Text.{isBlank}
 use Rattle.rules.proofs.Words.{digit-not-blank}
-use Rattle.text.specs.Scan.{most, blanks, Numbered, Digits, Scans, AboveNought, UnsignedNumber, Sign, bytesAt, Bytes, MovedUp, EachUpTo, EachAtMost, said, Short}
+use Rattle.text.specs.Scan.{most, blanks, Numbered, Digits, Scans, Positive, Plain, AboveNought, Sign, bytesAt, Bytes, MovedUp, EachUpTo, EachAtMost, said, Short}
 use Rattle.text.specs.declared.Token.the-variants.{Plus, Minus}
 use Rattle.text.proofs.Places.{blank-space, digit-by, blanks-on, blanks-stop, ends-at}
 use Rattle.text.proofs.Bytes.{first-byte, bytes-of-bits, each-moved, said-moved, said-least, said-most}
@@ -67,6 +67,12 @@ unfolding said
 said-nought n p x e z = ap (λ (k : ℕ). said k 0 x) e ∙ ap (λ (v : ℕ). said p (0 * 10 + v) (x / 256)) z
 
 -- The number behind a place
+
+-- A number of this size stands behind the place `at`, and takes so many bytes together with the one at `at`.
+pub record UnsignedNumber (s : List ℕ) (at size bytes : ℕ) : Type 0 where
+  pub positive : 1 ≤ size
+  pub plain : Plain (getD s (at + 1) 0)
+  pub number : Positive (at + 1) (drop (at + 1) s) size (at + bytes)
 
 -- A digit other than 0 is first, and a space is behind the last.
 unsigned-said : (s : List ℕ) (at n k e : ℕ) → Above s (at + 1) k e → 1 ≤ n → n ≤ k → EachUpTo 9 n e → said n 0 e ≤ most → at + 1 + n < length s → 49 ≤ getD s (at + 1) 0 → getD s (at + 1) 0 ≤ 57 → getD s (at + 1 + n) 0 ≡ 32 → UnsignedNumber s at (said n 0 e) (n + 1)

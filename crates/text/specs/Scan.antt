@@ -114,12 +114,6 @@ pub record AboveNought (b r : ℕ) : Type 0 where
   pub few : r ≤ 255
   pub is : r < 10 → b ≡ r + 48
 
--- A number of this size stands behind the place `at`, and takes so many bytes together with the one at `at`.
-pub record UnsignedNumber (s : List ℕ) (at size bytes : ℕ) : Type 0 where
-  pub positive : 1 ≤ size
-  pub plain : Plain (getD s (at + 1) 0)
-  pub number : Positive (at + 1) (drop (at + 1) s) size (at + bytes)
-
 -- 1 only for a sign, and else 0.
 pub record Sign (b r : ℕ) : Type 0 where
   pub few : r ≤ 1
