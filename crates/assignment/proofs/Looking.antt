@@ -243,8 +243,8 @@ module _ (clause marks : List ℕ) (others last i : ℕ) (l : Looking clause mar
       }
 
   -- The literal before i once more: it is false, or is the last that is not.
-  looking-again : length clause ≤ i → (x mark first before : ℕ) → Counted before x mark first → Latest before x mark last → (r last′ : ℕ) → Counted last x mark r → Latest last x mark last′ → Looking clause marks (others + r) last′ (i + 1)
-  looking-again end x mark first before k m r last′ k′ m′ =
+  looking-again : length clause ≤ i → (x mark before : ℕ) → Latest before x mark last → (r last′ : ℕ) → Counted last x mark r → Latest last x mark last′ → Looking clause marks (others + r) last′ (i + 1)
+  looking-again end x mark before m r last′ k′ m′ =
       let none : r ≡ 0 = bool-cases (eqb mark 0) (λ y. let e = eqb-true mark 0 y in k′ .again e (sym (m .taken e))) (λ n. k′ .passed (eqb-false mark 0 n)) in
       let kept : last′ ≡ last = bool-cases (eqb mark 0) (λ y. let e = eqb-true mark 0 y in m′ .taken e ∙ sym (m .taken e)) (λ n. m′ .passed (eqb-false mark 0 n)) in
       let same : others + r ≡ others = omega (arith, none) in
@@ -291,7 +291,7 @@ looking-two clause marks others last i l known more paired at e first middle k m
     looking-on clause marks (others + first) middle (i + 1) one known some paired back (rw q at e′) second last′ (rw q at k′) (rw q at m′))
     (λ none. let q : j ≡ i = b .is-last none in
     let p : back ≡ at = (rw q at e′) ∙ sym e in
-    looking-again clause marks (others + first) middle (i + 1) one known none (getD clause i 0) (getD marks at 0) first last k m second last′ (rw (q, p) at k′) (rw (q, p) at m′))
+    looking-again clause marks (others + first) middle (i + 1) one known none (getD clause i 0) (getD marks at 0) last m second last′ (rw (q, p) at k′) (rw (q, p) at m′))
     (cut (i + 1) (length clause)))
 
 -- One literal alone

@@ -33,6 +33,11 @@ module _ (k x : ℕ) where
   kept-rest : x % 256 ^ suc k / 256 ≡ x / 256 % 256 ^ k
   kept-rest = omega (arith, low-bytes k x)
 
+-- The byte b, k times.
+abbrev pub repeated : ℕ → ℕ → ℕ
+repeated b zero = 0
+repeated b (suc k) = b + 256 * repeated b k
+
 -- The lowest byte of a sum, and the rest of it, where nothing is carried.
 pub first-byte : (k e c more b rest : ℕ) → e % 256 ≤ 9 → c ≤ 48 → b < 256 → (e + (c + 256 * more)) % 256 ^ suc k ≡ b + 256 * rest → (b ≡ e % 256 + c) × (rest ≡ (e / 256 + more) % 256 ^ k)
 first-byte k e c more b rest small few byte is =
@@ -130,34 +135,25 @@ said-most d e = omega (arith, e .each)
 
 -- Masks
 
--- The upper half of each of k bytes, and six in each.
-abbrev halves : ℕ → ℕ
-halves zero = 0
-halves (suc k) = 240 + 256 * halves k
-
-abbrev sixes : ℕ → ℕ
-sixes zero = 0
-sixes (suc k) = 6 + 256 * sixes k
-
 upper-half : (b : ℕ) → b < 256 → bitAnd b 240 ≡ 0 → b ≤ 15
 upper-half b h e =
     let a : b / 16 % 16 * 16 ≡ 0 = sym (and-high b 4 4) ∙ e in
     let m : b / 16 % 16 ≡ b / 16 = mod-eq-of-lt (omega arith) in
     omega (arith, a, m)
 
-each-low : (k x : ℕ) → bitAnd x (halves k) ≡ 0 → EachUpTo 15 k x
+each-low : (k x : ℕ) → bitAnd x (repeated 240 k) ≡ 0 → EachUpTo 15 k x
 each-low zero x e = tt
 each-low (suc k) x e =
     let split : x ≡ x / 256 * 256 + x % 256 = omega arith in
-    let mask : halves (suc k) ≡ halves k * 256 + 240 = omega arith in
-    let both : bitAnd (x / 256) (halves k) * 256 + bitAnd (x % 256) 240 ≡ 0 = sym (and-block 8 (x / 256) (halves k) (x % 256) 240 (omega arith) (omega arith)) ∙ (rw (← split, ← mask) e) in
+    let mask : repeated 240 (suc k) ≡ repeated 240 k * 256 + 240 = omega arith in
+    let both : bitAnd (x / 256) (repeated 240 k) * 256 + bitAnd (x % 256) 240 ≡ 0 = sym (and-block 8 (x / 256) (repeated 240 k) (x % 256) 240 (omega arith) (omega arith)) ∙ (rw (← split, ← mask) e) in
     (upper-half (x % 256) (omega arith) (omega (arith, both)), each-low k (x / 256) (omega (arith, both)))
 
-each-digit : (k x : ℕ) → EachUpTo 15 k x → EachUpTo 15 k (x + sixes k) → EachUpTo 9 k x
+each-digit : (k x : ℕ) → EachUpTo 15 k x → EachUpTo 15 k (x + repeated 6 k) → EachUpTo 9 k x
 each-digit zero x h q = tt
 each-digit (suc k) x h q =
-    let low : (x + sixes (suc k)) % 256 ≡ x % 256 + 6 = omega (arith, h .0) in
-    let rest : (x + sixes (suc k)) / 256 ≡ x / 256 + sixes k = omega (arith, h .0) in
+    let low : (x + repeated 6 (suc k)) % 256 ≡ x % 256 + 6 = omega (arith, h .0) in
+    let rest : (x + repeated 6 (suc k)) / 256 ≡ x / 256 + repeated 6 k = omega (arith, h .0) in
     (omega (arith, low, q .0), each-digit k (x / 256) (h .1) (rw rest at (q .1)))
 
 -- The test for digits in all bytes

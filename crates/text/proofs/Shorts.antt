@@ -15,7 +15,7 @@ use Rattle.rules.proofs.Words.{digit-not-blank}
 use Rattle.text.specs.Scan.{most, blanks, Numbered, Digits, Scans, Positive, Plain, AboveNought, Sign, bytesAt, Bytes, MovedUp, EachUpTo, EachAtMost, said, Short}
 use Rattle.text.specs.declared.Token.the-variants.{Plus, Minus}
 use Rattle.text.proofs.Places.{blank-space, digit-by, blanks-on, blanks-stop, ends-at}
-use Rattle.text.proofs.Bytes.{first-byte, bytes-of-bits, each-moved, said-moved, said-least, said-most}
+use Rattle.text.proofs.Bytes.{repeated, first-byte, bytes-of-bits, each-moved, said-moved, said-least, said-most}
 use Rattle.text.proofs.Numbers.{numbered-end, digits-start, digits-on, positive-on}
 use Rattle.text.proofs.Wordings.{sign-minus, plain-plus, settle-found, scans-word}
 
@@ -29,21 +29,16 @@ digit-more s first from v i d r h b l m =
 
 -- Eight bytes less eight digits 0
 
--- The digit 0 in each of k bytes.
-abbrev noughts : ℕ → ℕ
-noughts zero = 0
-noughts (suc k) = 48 + 256 * noughts k
-
 -- The k bytes from the place i on are those of e, each above the digit 0, as far as these are digits.
 pub record Above (s : List ℕ) (i k e : ℕ) : Type 0 where
-  pub is : (e + noughts k) % 256 ^ k ≡ bytesAt s i k
+  pub is : (e + repeated 48 k) % 256 ^ k ≡ bytesAt s i k
   pub bytes : (j : ℕ) → i ≤ j → j < i + k → getD s j 0 < 256
 
 -- The first of the bytes, and the rest.
 module _ (s : List ℕ) (i k e : ℕ) (a : Above s i (suc k) e) (small : e % 256 ≤ 9) where
-  parts : (getD s i 0 ≡ e % 256 + 48) × (bytesAt s (i + 1) k ≡ (e / 256 + noughts k) % 256 ^ k)
+  parts : (getD s i 0 ≡ e % 256 + 48) × (bytesAt s (i + 1) k ≡ (e / 256 + repeated 48 k) % 256 ^ k)
   unfolding bytesAt
-  parts = first-byte k e 48 (noughts k) (getD s i 0) (bytesAt s (i + 1) k) small (omega arith) (a .bytes i (omega arith) (omega arith)) (a .is)
+  parts = first-byte k e 48 (repeated 48 k) (getD s i 0) (bytesAt s (i + 1) k) small (omega arith) (a .bytes i (omega arith) (omega arith)) (a .is)
 
   above-byte : getD s i 0 ≡ e % 256 + 48
   above-byte = parts .0
@@ -155,7 +150,7 @@ module _ (s : List ℕ) (at : ℕ) where
           let two : 2 ≤ n = bool-cases (ltb 1 n) (λ y. ltb-true 1 n y) (λ q. let k : n ≡ 1 = omega (arith, ltb-false 1 n q) in let there : getD s (at + 1 + 1) 0 ≡ 32 = (rw k at behind) in absurd (omega arith)) in
           let p : n ≡ suc (n - 1) = omega arith in
           let peeled = subst (λ (k : ℕ). EachUpTo 9 k (m .difference)) p worths in
-          let parts = first-byte 7 (m .difference) 45 (noughts 7) (getD s (at + 1) 0) (bytesAt s (at + 1 + 1) 7) (peeled .0) (omega arith) (omega arith) ((rw one at (m .is)) ∙ e .is) in
+          let parts = first-byte 7 (m .difference) 45 (repeated 48 7) (getD s (at + 1) 0) (bytesAt s (at + 1 + 1) 7) (peeled .0) (omega arith) (omega arith) ((rw one at (m .is)) ∙ e .is) in
           let above : Above s (at + 1 + 1) 7 (m .difference / 256) = record { is = sym (parts .1); bytes = λ j l r. e .bytes j (omega arith) (omega arith) } in
           let value : said 8 0 d ≡ said (n - 1) 0 (m .difference / 256) = number ∙ said-nought n (n - 1) (m .difference) p (omega (arith, parts .0)) in
           let space : getD s (at + 1 + 1 + (n - 1)) 0 ≡ 32 = (let q : at + 1 + 1 + (n - 1) ≡ at + 1 + n = omega arith in rw q behind) in

@@ -1,105 +1,79 @@
+-- `text::eight` meets its contract: one byte after the other is put above those before it. Assumes nothing.
 use native.Mathlib.Omega.{arith}
 use Rattle.text.proofs.Bytes.{one-byte, byte-on}
 use borrow.Author.Needs.{needs}
 use Rattle.text.proofs.eight.Statement.{statement}
 use Rattle.text.proofs.eight.Tie as tie
-use Rattle.text.proofs.eight.Reads as reads
-use Rattle.text.proofs.eight.Lts as lts
-use Rattle.text.proofs.wide.Reads as wide-reads
 
--- src/lib.rt:328:19
 shared-slice-read-wide : tie.Need-shared-slice-read-wide
 shared-slice-read-wide c = search needs
 
--- src/lib.rt:328:9
 wide-requires : tie.Need-wide-requires
 wide-requires c κs = search needs
 
--- src/lib.rt:329:21
 add-wide : tie.Need-add-wide
 add-wide c = search needs
 
--- src/lib.rt:329:19
 shared-slice-read-wide-2 : tie.Need-shared-slice-read-wide-2
 shared-slice-read-wide-2 c = search needs
 
--- src/lib.rt:329:9
 wide-requires-2 : tie.Need-wide-requires-2
 wide-requires-2 c κs = search needs
 
--- src/lib.rt:330:21
 add-wide-2 : tie.Need-add-wide-2
 add-wide-2 c = search needs
 
--- src/lib.rt:330:19
 shared-slice-read-wide-3 : tie.Need-shared-slice-read-wide-3
 shared-slice-read-wide-3 c = search needs
 
--- src/lib.rt:330:9
 wide-requires-3 : tie.Need-wide-requires-3
 wide-requires-3 c κs = search needs
 
--- src/lib.rt:331:21
 add-wide-3 : tie.Need-add-wide-3
 add-wide-3 c = search needs
 
--- src/lib.rt:331:19
 shared-slice-read-wide-4 : tie.Need-shared-slice-read-wide-4
 shared-slice-read-wide-4 c = search needs
 
--- src/lib.rt:331:9
 wide-requires-4 : tie.Need-wide-requires-4
 wide-requires-4 c κs = search needs
 
--- src/lib.rt:332:21
 add-wide-4 : tie.Need-add-wide-4
 add-wide-4 c = search needs
 
--- src/lib.rt:332:19
 shared-slice-read-wide-5 : tie.Need-shared-slice-read-wide-5
 shared-slice-read-wide-5 c = search needs
 
--- src/lib.rt:332:9
 wide-requires-5 : tie.Need-wide-requires-5
 wide-requires-5 c κs = search needs
 
--- src/lib.rt:333:21
 add-wide-5 : tie.Need-add-wide-5
 add-wide-5 c = search needs
 
--- src/lib.rt:333:19
 shared-slice-read-wide-6 : tie.Need-shared-slice-read-wide-6
 shared-slice-read-wide-6 c = search needs
 
--- src/lib.rt:333:9
 wide-requires-6 : tie.Need-wide-requires-6
 wide-requires-6 c κs = search needs
 
--- src/lib.rt:334:21
 add-wide-6 : tie.Need-add-wide-6
 add-wide-6 c = search needs
 
--- src/lib.rt:334:19
 shared-slice-read-wide-7 : tie.Need-shared-slice-read-wide-7
 shared-slice-read-wide-7 c = search needs
 
--- src/lib.rt:334:9
 wide-requires-7 : tie.Need-wide-requires-7
 wide-requires-7 c κs = search needs
 
--- src/lib.rt:335:21
 add-wide-7 : tie.Need-add-wide-7
 add-wide-7 c = search needs
 
--- src/lib.rt:335:19
 shared-slice-read-wide-8 : tie.Need-shared-slice-read-wide-8
 shared-slice-read-wide-8 c = search needs
 
--- src/lib.rt:335:9
 wide-requires-8 : tie.Need-wide-requires-8
 wide-requires-8 c κs = search needs
 
--- src/lib.rt:324:1
 returns : tie.Need-returns
 returns c = byte-on _ _ 7 _ _ (byte-on _ _ 6 _ _ (byte-on _ _ 5 _ _ (byte-on _ _ 4 _ _ (byte-on _ _ 3 _ _ (byte-on _ _ 2 _ _ (byte-on _ _ 1 _ _ (one-byte _ _ _ (c .before .before .before .before .before .before .before .before .before .before .before .before .before .before .wide .ensures)) (c .before .before .before .before .before .before .before .before .before .before .before .before .wide2 .ensures) (omega (arith, c .before .before .before .before .before .before .before .before .before .before .before .before .wide2 .ensures .1))) (c .before .before .before .before .before .before .before .before .before .before .wide3 .ensures) (omega (arith, c .before .before .before .before .before .before .before .before .before .before .wide3 .ensures .1))) (c .before .before .before .before .before .before .before .before .wide4 .ensures) (omega (arith, c .before .before .before .before .before .before .before .before .wide4 .ensures .1))) (c .before .before .before .before .before .before .wide5 .ensures) (omega (arith, c .before .before .before .before .before .before .wide5 .ensures .1))) (c .before .before .before .before .wide6 .ensures) (omega (arith, c .before .before .before .before .wide6 .ensures .1))) (c .before .before .wide7 .ensures) (omega (arith, c .before .before .wide7 .ensures .1))) (c .wide8 .ensures) (omega (arith, c .wide8 .ensures .1))
 

@@ -1,143 +1,103 @@
+-- `text::short_at` meets its contract: one space, a sign or none, and digits with a space behind them. Assumes nothing.
 use native.Mathlib.Omega.{arith}
 use Rattle.text.proofs.Shorts.{short-none, short-some}
 use borrow.Author.Needs.{needs}
 use Rattle.text.proofs.short_at.Statement.{statement}
 use Rattle.text.proofs.short_at.Tie as tie
-use Rattle.text.proofs.short_at.Reads as reads
-use Rattle.text.proofs.short_at.Lts as lts
-use Rattle.text.proofs.all_digits.Reads as all-digits-reads
-use Rattle.text.proofs.before_space.Reads as before-space-reads
-use Rattle.text.proofs.digit.Reads as digit-reads
-use Rattle.text.proofs.eight.Reads as eight-reads
-use Rattle.text.proofs.number_of.Reads as number-of-reads
-use Rattle.text.proofs.sign_of.Reads as sign-of-reads
-use Rattle.text.proofs.worths.Reads as worths-reads
 
--- src/lib.rt:399:8
 sub-if1 : tie.Need-sub-if1
 sub-if1 c = search needs
 
--- src/lib.rt:400:9
 returns : tie.Need-returns
 returns c = short-none _ _
 
--- src/lib.rt:402:8
 shared-slice-read-if2 : tie.Need-shared-slice-read-if2
 shared-slice-read-if2 c = search needs
 
--- src/lib.rt:403:9
 returns-2 : tie.Need-returns-2
 returns-2 c = short-none _ _
 
--- src/lib.rt:405:22
 add-eight : tie.Need-add-eight
 add-eight c = search needs
 
--- src/lib.rt:405:9
 eight-requires : tie.Need-eight-requires
 eight-requires c κs = search needs
 
--- src/lib.rt:406:9
 before-space-requires : tie.Need-before-space-requires
 before-space-requires c κs = search needs
 
--- src/lib.rt:408:9
 returns-3 : tie.Need-returns-3
 returns-3 c = short-none _ _
 
--- src/lib.rt:411:9
 returns-4 : tie.Need-returns-4
 returns-4 c = short-none _ _
 
--- src/lib.rt:413:10
 add-if5 : tie.Need-add-if5
 add-if5 c = search needs
 
--- src/lib.rt:413:10
 add-if5-2 : tie.Need-add-if5-2
 add-if5-2 c = search needs
 
--- src/lib.rt:413:8
 shared-slice-read-if5 : tie.Need-shared-slice-read-if5
 shared-slice-read-if5 c = search needs
 
--- src/lib.rt:414:9
 returns-5 : tie.Need-returns-5
 returns-5 c = short-none _ _
 
--- src/lib.rt:416:26
 add-sign-of : tie.Need-add-sign-of
 add-sign-of c = search needs
 
--- src/lib.rt:416:24
 shared-slice-read-sign-of : tie.Need-shared-slice-read-sign-of
 shared-slice-read-sign-of c = search needs
 
--- src/lib.rt:416:9
 sign-of-requires : tie.Need-sign-of-requires
 sign-of-requires c κs = search needs
 
--- src/lib.rt:417:25
 add-digit : tie.Need-add-digit
 add-digit c = search needs
 
--- src/lib.rt:417:25
 add-digit-2 : tie.Need-add-digit-2
 add-digit-2 c = search needs
 
--- src/lib.rt:417:23
 shared-slice-read-digit : tie.Need-shared-slice-read-digit
 shared-slice-read-digit c = search needs
 
--- src/lib.rt:417:9
 digit-requires : tie.Need-digit-requires
 digit-requires c κs = search needs
 
--- src/lib.rt:419:9
 returns-6 : tie.Need-returns-6
 returns-6 c = short-none _ _
 
--- src/lib.rt:422:9
 returns-7 : tie.Need-returns-7
 returns-7 c = short-none _ _
 
--- src/lib.rt:424:9
 worths-requires : tie.Need-worths-requires
 worths-requires c κs = search needs
 
--- src/lib.rt:425:8
 all-digits-requires : tie.Need-all-digits-requires
 all-digits-requires c κs = search needs
 
--- src/lib.rt:426:16
 number-of-requires : tie.Need-number-of-requires
 number-of-requires c κs = c .before .all-digits .ensures .yes (c .if8 .taken)
 
--- src/lib.rt:426:16
 mul-result : tie.Need-mul-result
 mul-result c = search needs
 
--- src/lib.rt:426:36
 mul-result-2 : tie.Need-mul-result-2
 mul-result-2 c = search needs
 
--- src/lib.rt:426:16
 add-result : tie.Need-add-result
 add-result c = search needs
 
--- src/lib.rt:426:50
 add-result-2 : tie.Need-add-result-2
 add-result-2 c = search needs
 
--- src/lib.rt:426:16
 add-result-3 : tie.Need-add-result-3
 add-result-3 c = search needs
 
--- src/lib.rt:426:9
 returns-8 : tie.Need-returns-8
 returns-8 c = short-some _ _ (omega (arith, c .before .before .before .before .before .before .before .before .before .before .before .before .before .before .before .before .before .before .if1 .left)) (c .before .before .before .before .before .before .before .before .before .before .before .before .before .before .before .before .if2 .left) _ _ _ _ _ (omega (arith, c .before .before .before .before .before .before .before .before .before .before .before .before .before .before .before .before .before .before .if1 .left)) (c .before .before .before .before .before .before .before .before .before .before .before .before .before .before .before .eight .ensures) (c .before .before .before .before .before .before .before .before .before .before .before .before .before .if3 .left) (c .before .before .before .before .before .before .before .before .before .before .before .before .if4 .left) (c .before .before .before .before .before .before .before .before .before .before .if5 .left) (c .before .before .before .before .before .before .before .before .sign-of .ensures) (c .before .before .before .before .before .before .digit .ensures) (c .before .before .before .before .before .if6 .left) (c .before .before .before .before .if7 .left) (c .before .before .before .worths .ensures) (c .before .before .all-digits .ensures .yes (c .before .if8 .taken)) _ (c .number-of .ensures .0)
 
--- src/lib.rt:395:1
 returns-9 : tie.Need-returns-9
 returns-9 c = short-none _ _
 
