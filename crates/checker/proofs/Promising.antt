@@ -1,5 +1,5 @@
 -- The promises of the front door, from what its parts come to. Assumes nothing.
-use Prim.Native.Nat.{ℕ, _+_, _*_, _%_, _≤_}
+use Prim.Native.Nat.{ℕ, _+_, _*_, _%_, _<_, _≤_}
 use mathlib.Core.Path.{_≡_, refl, sym, ap, _∙_}
 use mathlib.Core.Logic.{inl, inr, ⊎-elim}
 use mathlib.Core.List.{List}
@@ -79,41 +79,42 @@ leads-fewer : (s : State) (ts : List Token) (s′ : State) (ts′ : List Token) 
 leads-fewer s ts s′ ts′ here = omega arith
 leads-fewer s ts s′ ts′ (then {s₁ = s₁} {ts₁ = ts₁} r l is j) = omega (arith, step-shorter ts₁ r is, leads-fewer s ts s₁ ts₁ l)
 
+-- Each part by itself: where it has its stated length, it is not the one that is too short, at no step that is come to.
+module _ (f p heads lits hints marks tape : List ℕ) (e : Enough f p heads lits hints marks tape)
+    (x : ShortLater f p heads lits hints tape (length marks)) (y : ShortAt heads lits hints tape (length marks) (start (x .formula)) (tokens p) (x .all)) where
+  codes-few : y .lacks .codes + 1 ≤ length (y .rest)
+  codes-few = begins-fewer (y .rest) (y .lacks .codes) (y .lacks .step)
+
+  heads-never : length heads ≤ 3 * y .n + 5 → ⊥
+  heads-never h = omega (arith, e .in-heads, x .few, y .few, codes-few)
+
+  lits-never : length lits ≤ y .used + y .lacks .codes → ⊥
+  lits-never h = omega (arith, e .in-lits, x .few, y .few, codes-few)
+
+  hints-never : length hints ≤ y .lacks .codes → ⊥
+  hints-never h = omega (arith, e .in-hints, codes-few, leads-fewer (start (x .formula)) (tokens p) (y .state) (y .rest) (y .leads), tokens-few p)
+
+  tape-never : length tape < y .used + 2 * y .lacks .codes → ⊥
+  tape-never h = omega (arith, e .in-tape, x .few, y .few, codes-few)
+
+  large-never : LargeIn (length marks) (y .rest) → ⊥
+  large-never g =
+      omega (arith, e .in-marks (g .variable) (inr (record { formula = x .formula; is = x .is; state = y .state; rest = y .rest; leads = y .leads; stands = g .stands })), g .above)
+
+  short-never : ⊥
+  short-never =
+      ⊎-elim heads-never (λ q. ⊎-elim lits-never (λ r. ⊎-elim hints-never (λ s. ⊎-elim tape-never large-never s) r) q) (y .lacks .short)
+
 module _ (f p heads lits hints marks tape : List ℕ) (e : Enough f p heads lits hints marks tape) where
   no-mark-never : (x : ShortLater f p heads lits hints tape (length marks)) → NoMark (x .formula) (length marks) → ⊥
   no-mark-never x y =
       omega (arith, e .in-marks (y .variable) (inl (record { formula = x .formula; is = x .is; stands = y .occurs })), y .above)
 
-  short-never : (x : ShortLater f p heads lits hints tape (length marks)) → ShortAt heads lits hints tape (length marks) (start (x .formula)) (tokens p) (x .all) → ⊥
-  short-never x y =
-      ⊎-elim
-      (λ h. omega (arith, e .in-heads, x .few, y .few, codes-few))
-      (λ q.
-      ⊎-elim
-      (λ l. omega (arith, e .in-lits, x .few, y .few, codes-few))
-      (λ r.
-      ⊎-elim
-      (λ i. hints-never i)
-      (λ s. ⊎-elim (λ t. omega (arith, e .in-tape, x .few, y .few, codes-few)) (λ g. large-never g) s)
-      r)
-      q)
-      (y .lacks .short)
-    where
-      codes-few : y .lacks .codes + 1 ≤ length (y .rest)
-      codes-few = begins-fewer (y .rest) (y .lacks .codes) (y .lacks .step)
-
-      large-never : LargeIn (length marks) (y .rest) → ⊥
-      large-never g =
-          omega (arith, e .in-marks (g .variable) (inr (record { formula = x .formula; is = x .is; state = y .state; rest = y .rest; leads = y .leads; stands = g .stands })), g .above)
-
-      hints-never : length hints ≤ y .lacks .codes → ⊥
-      hints-never h = omega (arith, e .in-hints, codes-few, leads-fewer (start (x .formula)) (tokens p) (y .state) (y .rest) (y .leads), tokens-few p)
-
   pub enough-never : Short f p heads lits hints tape (length marks) → ⊥
   enough-never x =
       ⊎-elim
       (λ y. ⊎-elim (λ l. omega (arith, e .in-lits)) (λ h. omega (arith, e .in-heads)) y)
-      (λ y. ⊎-elim (λ a. no-mark-never y a) (λ b. short-never y b) (y .short))
+      (λ y. ⊎-elim (λ a. no-mark-never y a) (λ b. short-never f p heads lits hints marks tape e y b) (y .short))
       x
 
 -- The marks that are used.

@@ -50,12 +50,24 @@ fn show_text(length: usize, out: &[u8]) {
     say(&out[..length]);
 }
 
+// Nothing was written, and the output was empty before.
+fn show_short(out: &[u8]) {
+    if out.len() == 0 {
+        return;
+    }
+    if out[0] != 0 {
+        say(b"(output touched)\n");
+        return;
+    }
+    say(b"(output too short)\n");
+}
+
 fn show_written(w: FormulaWritten, out: &[u8]) {
     match w {
         FormulaWritten::Whole { length } => show_text(length, out),
         FormulaWritten::Unreadable { at } => say(b"(unreadable)\n"),
         FormulaWritten::StoreTooShort { at } => say(b"(store too short)\n"),
-        FormulaWritten::OutputTooShort => say(b"(output too short)\n"),
+        FormulaWritten::OutputTooShort => show_short(out),
     }
 }
 

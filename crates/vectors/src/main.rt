@@ -77,6 +77,24 @@ fn show(a: Answer, expected: &[u8]) {
     }
 }
 
+fn step_of(a: Answer) -> u64 {
+    match a {
+        Answer::Verified { step } => step,
+        Answer::UnreadableFormula => 0,
+        Answer::UnreadableStep { step } => step,
+        Answer::Refused { step } => step,
+        Answer::Unfinished { steps } => steps,
+        Answer::TooShort => 0,
+    }
+}
+
+// A step takes a turn at least.
+fn say_turns(step: u64, turns: u64) {
+    if turns < step {
+        say(b"    DIFFERS: fewer turns than steps\n");
+    }
+}
+
 // Checks with this store, and says what came of it.
 fn checked(
     formula: &[u8],
@@ -92,6 +110,7 @@ fn checked(
     let r = checker::check(formula, proof, heads, lits, hints, guess, marks, tape);
     let a = r.answer;
     show(a, expected);
+    say_turns(step_of(a), r.turns);
 }
 
 // With a store that always does for two files of 4,096 bytes each with variables up to 2,047. What is in it before does not
