@@ -57,7 +57,7 @@ uint64_t proofscale_check(const uint8_t *formula, size_t formula_length,
  *
  * Returns 0 if it was written, and then *length is how many bytes; what lies behind them in `out` is as it was. Otherwise `out` is
  * as it was, byte for byte, and the answer is 1 (unreadable; *length is the place of the byte up to which it was read), 5 (the
- * store is too short) or 6 (the output is too short). A store of (3 f + 10) / 2 numbers in `heads` and (f + 1) / 2 in `lits`
+ * store is too short) or 6 (the output is too short). A store of (3 f + 10) / 2 numbers in `heads` and (f + 2) / 2 in `lits`
  * always does. */
 uint64_t proofscale_write(const uint8_t *formula, size_t formula_length,
                           uint32_t *heads, size_t heads_length,

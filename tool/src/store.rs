@@ -181,7 +181,7 @@ fn words_in(text: &[u8]) -> usize {
 
 /// The lengths that always do for writing a formula out, by include/proofscale.h.
 pub fn enough_to_write(formula: usize) -> Sizes {
-    Sizes { heads: (3 * formula + 10) / 2, lits: formula.div_ceil(2), ..Sizes::default() }
+    Sizes { heads: (3 * formula + 10) / 2, lits: (formula + 2) / 2, ..Sizes::default() }
 }
 
 /// The lengths that writing a formula out is tried with first.

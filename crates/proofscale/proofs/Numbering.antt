@@ -40,7 +40,7 @@ means-number f (Unfinished k) m e = absurd (omega arith)
 means-number f TooShort m e = absurd (omega arith)
 
 exact-numbers : (f p : List ℕ) (a : Answer) → Exact f p a → ExactNumbers f p (numberOf a) (stepOf a)
-exact-numbers f p a x = ⊎-elim (λ short. inl (ap numberOf short)) (λ says. inr (said-numbers a (verdict f p) says)) x
+exact-numbers f p a x = ⊎-elim (λ short. inl (ap numberOf short, ap stepOf short)) (λ says. inr (said-numbers a (verdict f p) says)) x
 
 pub check-numbers : (f p heads lits hints marks tape : List ℕ) (a : Answer) (turns : ℕ)
     → Exact f p a × (Means f a × (Room f p heads lits hints marks tape a × (FollowsLive f p heads lits hints marks tape a × ((turns ≤ timeBound (length f) (length p)) × (stepOf a ≤ turns)))))

@@ -26,9 +26,9 @@ abbrev pub orNought : Option ℕ → ℕ
 orNought none = 0
 orNought (some k) = k
 
--- exact: the number is 5, or number and step are those of the document's verdict.
+-- exact: the number is 5 and the step 0, or number and step are those of the document's verdict.
 abbrev pub ExactNumbers : List ℕ → List ℕ → ℕ → ℕ → Type 0
-ExactNumbers f p r step = (r ≡ 5) ⊎ ((r ≡ answerNumber (verdict f p)) × (step ≡ orNought (answerStep (verdict f p))))
+ExactNumbers f p r step = ((r ≡ 5) × (step ≡ 0)) ⊎ ((r ≡ answerNumber (verdict f p)) × (step ≡ orNought (answerStep (verdict f p))))
 
 -- unsolvable: 0 means that the bytes spell a formula, and that it has no solution.
 abbrev pub MeansNumber : List ℕ → ℕ → Type 0

@@ -13,10 +13,10 @@ use Rattle.meaning.specs.Meaning.{Literal, pos, neg, Clause, Formula, variable,
 use Rattle.meaning.proofs.Truth.{bool-cases}
 use Rattle.rules.specs.Tools.{bytes, _>>=_}
 use Rattle.rules.specs.Limits.{maxVariable, maxClauses}
-use Rattle.rules.specs.Text.{Token, nought, plus, minus, letterD, other, isNought, token, tokens, literal}
+use Rattle.rules.specs.Text.{Token, Proper, nought, plus, minus, letterD, other, isNought, token, tokens, literal}
 use Rattle.rules.specs.Formula.{afterComments, before, behind, afterPrefix, count, header, items, readClauses, atEnd, readFormula, WithinLimits}
 use Rattle.rules.proofs.Options.{none-some, some-inj, bound, only-some}
-use Rattle.rules.proofs.Words.{Proper, AllProper, tokens-proper}
+use Rattle.rules.proofs.Words.{AllProper, tokens-proper}
 
 count-limited : (m : ℕ) (t : Token) (n : ℕ) → count m t ≡ some n → n ≤ m
 unfolding count

@@ -10,6 +10,7 @@ use lib.Dec.{eqb, leb}
 use Rattle.meaning.proofs.Truth.{bool-cases, and-both, neither-or}
 use Rattle.rules.specs.Tools.{bytes}
 use Rattle.rules.specs.Text.{
+  Proper,
   isBlank,
   isDigit,
   digits,
@@ -91,14 +92,6 @@ positive-above-0 (b ∷ w) n e =
   where
     first : eqb b 48 ≡ false → (48 ≤ b) × (b ≤ 57) → 0 * 10 + (b - 48) ≤ n → 1 ≤ n
     first m r g = bool-cases (leb 49 b) (λ y. omega (arith, leb-true 49 b y)) (λ x. absurd (eqb-false b 48 m (omega (arith, leb-false 49 b x))))
-
--- The number of a token is never 0: that is a token of its own.
-abbrev pub Proper : Token → Type 0
-Proper nought = Unit {0}
-Proper (plus n) = 1 ≤ n
-Proper (minus n) = 1 ≤ n
-Proper letterD = Unit {0}
-Proper other = Unit {0}
 
 signed-proper : (sign : ℕ → Token) → ((n : ℕ) → 1 ≤ n → Proper (sign n)) → (w : List ℕ) → Proper (signed sign w)
 unfolding signed

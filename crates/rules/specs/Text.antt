@@ -1,7 +1,7 @@
 -- Section 2, text: blanks, numbers, and the tokens that a text is made of. A text is a list of bytes, each a number from 0 to
 -- 255. A number in it has no limit here. Each place where one may stand tests its own, so a number that is too large is never
 -- taken for another one.
-use Prim.Native.Nat.{ℕ, _+_, _*_, _-_}
+use Prim.Native.Nat.{ℕ, _+_, _*_, _-_, _≤_}
 use mathlib.Core.Bool.{Bool, true, false, _&&_, _||_}
 use mathlib.Core.List.{List, [], _∷_, map}
 use mathlib.Core.Option.{Option, none, some}
@@ -36,6 +36,14 @@ pub data Token : Type 0 where
   minus : ℕ → Token
   letterD : Token
   other : Token
+
+-- The number of a token is never 0: that is a token of its own. (Every token of a text is so: `tokens-proper` in proofs/.)
+abbrev pub Proper : Token → Type 0
+Proper nought = Unit {0}
+Proper (plus n) = 1 ≤ n
+Proper (minus n) = 1 ≤ n
+Proper letterD = Unit {0}
+Proper other = Unit {0}
 
 -- What the bytes of a number say behind its sign.
 unfoldable pub signed : (ℕ → Token) → List ℕ → Token

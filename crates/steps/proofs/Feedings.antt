@@ -12,9 +12,8 @@ use lib.Dec.{leb}
 use lib.ListN.{length, set, take-append-drop}
 use Rattle.meaning.proofs.Truth.{bool-cases}
 use Rattle.rules.specs.Limits.{maxVariable, maxId}
-use Rattle.rules.specs.Text.{Token, nought, plus, minus, letterD, other, isLetterD, literal}
+use Rattle.rules.specs.Text.{Token, Proper, nought, plus, minus, letterD, other, isLetterD, literal}
 use Rattle.rules.specs.Steps.{clauseId, hint}
-use Rattle.rules.proofs.Words.{Proper}
 use Rattle.text.specs.Scan.{capped}
 use Rattle.text.specs.declared.Token.{Token as Found}
 use Rattle.text.specs.declared.Token.the-variants.{Nought, Plus, Minus, LetterD, Other, Nothing}

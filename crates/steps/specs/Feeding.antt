@@ -9,9 +9,8 @@ use lib.Dec.{leb}
 use lib.ListN.{length, set}
 use Rattle.meaning.specs.Meaning.{Literal as Lit, Clause, variable}
 use Rattle.rules.specs.Limits.{maxVariable, maxId}
-use Rattle.rules.specs.Text.{Token, literal}
+use Rattle.rules.specs.Text.{Token, Proper, literal}
 use Rattle.rules.specs.Steps.{add, delete}
-use Rattle.rules.proofs.Words.{Proper}
 use Rattle.text.specs.Scan.{capped}
 use Rattle.text.specs.declared.Token.{Token as Found}
 use Rattle.text.specs.declared.Token.the-variants.{Nought, Plus, Minus, LetterD, Other, Nothing}

@@ -10,8 +10,8 @@ use lib.Dec.{leb}
 use lib.ListN.{length, drop, length-drop}
 use lib.Seq.{drop-drop}
 use Rattle.meaning.proofs.Truth.{bool-cases}
-use Rattle.rules.specs.Text.{isBlank, Token, nought, plus, minus, letterD, other, token, word, wordsFrom, tokens}
-use Rattle.rules.proofs.Words.{tokens-blank, Proper, token-proper}
+use Rattle.rules.specs.Text.{isBlank, Token, Proper, nought, plus, minus, letterD, other, token, word, wordsFrom, tokens}
+use Rattle.rules.proofs.Words.{tokens-blank, token-proper}
 use Rattle.text.specs.Scan.{most, blanks, capped, tokenOf, Scans}
 use Rattle.text.specs.declared.Token.{Token as Found}
 use Rattle.text.specs.declared.Token.the-variants.{Nothing}
