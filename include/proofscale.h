@@ -1,7 +1,7 @@
 /* Proofscale: a proved checker of LRAT proofs against DIMACS formulas.
  *
- * The functions are those of a static library that is written and proved in Rattle (target/staticlib/libproofscale.a, made by
- * `rt staticlib proofscale`). Each is proved safe and total for all arguments that this page allows: whatever bytes lie in
+ * The functions are those of a static library that is written and proved in Rattle (dist/libproofscale.a; `./proofscale prove`
+ * makes it anew). Each is proved safe and total for all arguments that this page allows: whatever bytes lie in
  * the slices, a call returns, touches nothing but what it was lent, and answers as documents 01 and STATEMENTS.md say.
  *
  * A slice is a pointer and the number of its elements (not bytes). The pointer is aligned for its type and not NULL, also where

@@ -1,49 +1,64 @@
-//! Links the proved static library, and notes which Rattle kit is on the path.
+//! Links the proved static library, and notes which one it is.
 //!
-//! The library is taken from ../target/staticlib, where `rt staticlib proofscale` puts it, or from the folder that the
-//! environment variable PROOFSCALE_LIB names. Nothing is checked here of what the archive holds: a stand-in links as well.
+//! The library is taken from ../dist, where the repository keeps it, or from the folder that the environment variable
+//! PROOFSCALE_LIB names. That in ../dist has to have the SHA-256 that ../dist/made-from says; of one from elsewhere nothing is
+//! checked, and a stand-in links as well: the tool then says where it is from. The commit is known only from the script
+//! ../proofscale, which hands it over in PROOFSCALE_COMMIT whenever it changes.
 
 use std::env;
-use std::path::PathBuf;
+use std::fs;
+use std::path::{Path, PathBuf};
 use std::process::Command;
 
-/// The folder that holds libproofscale.a.
-fn library_folder() -> PathBuf {
-    match env::var_os("PROOFSCALE_LIB") {
-        Some(folder) => PathBuf::from(folder),
-        None => {
-            PathBuf::from(env::var_os("CARGO_MANIFEST_DIR").expect("cargo sets CARGO_MANIFEST_DIR")).join("../target/staticlib")
-        }
-    }
+/// The SHA-256 of a file, by the system's sha256sum, as 64 hexadecimal digits.
+fn sha256(file: &Path) -> String {
+    let output = Command::new("sha256sum").arg("--").arg(file).output().expect("sha256sum has to be on the PATH");
+    let text = String::from_utf8_lossy(&output.stdout).into_owned();
+    let sum = text.trim_start_matches('\\').get(..64).unwrap_or_default().to_string();
+    assert!(
+        output.status.success() && sum.bytes().all(|b| b.is_ascii_hexdigit()),
+        "sha256sum has no sum of {}",
+        file.display()
+    );
+    sum
 }
 
-/// The kit's one-line identity, as `rt version` prints it, or `unknown` where there is no kit. Who made a library that comes
-/// from elsewhere is not known.
-fn kit() -> String {
-    if env::var_os("PROOFSCALE_LIB").is_some() {
-        return "unknown, with a library from PROOFSCALE_LIB".to_string();
-    }
-    let output = Command::new("rt").arg("version").output();
-    let text = match output {
-        Ok(o) if o.status.success() => String::from_utf8_lossy(&o.stdout).into_owned(),
-        _ => String::new(),
-    };
-    match text.lines().map(str::trim).find(|line| !line.is_empty()) {
-        Some(line) => line.to_string(),
-        None => "unknown".to_string(),
-    }
+/// What ../dist/made-from says behind a word.
+fn said(made_from: &str, word: &str) -> String {
+    let line = made_from.lines().find_map(|line| line.strip_prefix(word));
+    line.unwrap_or_else(|| panic!("dist/made-from has no line of the {word}")).trim().to_string()
+}
+
+/// Sets a variable that the tool reads when it is compiled.
+fn tell(name: &str, value: &str) {
+    println!("cargo:rustc-env={name}={value}");
 }
 
 fn main() {
-    let folder = library_folder();
+    let root = PathBuf::from(env::var_os("CARGO_MANIFEST_DIR").expect("cargo sets CARGO_MANIFEST_DIR")).join("..");
+    let elsewhere = env::var_os("PROOFSCALE_LIB").filter(|folder| !folder.is_empty()).map(PathBuf::from);
+    let folder = elsewhere.clone().unwrap_or_else(|| root.join("dist"));
     let archive = folder.join("libproofscale.a");
     println!("cargo:rerun-if-env-changed=PROOFSCALE_LIB");
+    println!("cargo:rerun-if-env-changed=PROOFSCALE_COMMIT");
     println!("cargo:rerun-if-changed={}", archive.display());
+    println!("cargo:rerun-if-changed=../dist/made-from");
     println!("cargo:rerun-if-changed=build.rs");
     if !archive.is_file() {
-        panic!("{} is missing: make it by `rt staticlib proofscale` in the repository's root", archive.display());
+        panic!("{} is missing; expected the proved library there", archive.display());
     }
+    let sum = sha256(&archive);
+    if elsewhere.is_some() {
+        tell("PROOFSCALE_KIT", "unknown, with a library from PROOFSCALE_LIB");
+        tell("PROOFSCALE_ORIGIN", "PROOFSCALE_LIB");
+    } else {
+        let made_from = fs::read_to_string(root.join("dist/made-from")).expect("dist/made-from has to be there");
+        assert!(said(&made_from, "archive") == sum, "dist/libproofscale.a is not the library that dist/made-from names");
+        tell("PROOFSCALE_KIT", &said(&made_from, "kit"));
+        tell("PROOFSCALE_ORIGIN", "dist");
+    }
+    tell("PROOFSCALE_LIBRARY", &sum);
+    tell("PROOFSCALE_COMMIT", &env::var("PROOFSCALE_COMMIT").unwrap_or_default());
     println!("cargo:rustc-link-search=native={}", folder.display());
     println!("cargo:rustc-link-lib=static=proofscale");
-    println!("cargo:rustc-env=PROOFSCALE_KIT={}", kit());
 }

@@ -218,6 +218,7 @@ fn tell_end(list: &OsStr, rows: &[Row], seconds: f64, options: &Options) -> Resu
         text.push_str(&format!("line {}: {}\n", row.line.number, sentence(row)));
     }
     text.push_str(&summary(rows, seconds));
+    text.push_str(&report::origin_line());
     output::deliver(text.as_bytes()).map(|_| ())
 }
 

@@ -55,10 +55,7 @@ fn run_command(command: &Command, options: &Options) -> Result<u8, Failure> {
         Command::Write { formula, out } => write::run(formula, out.as_deref(), options),
         Command::Batch { list } => batch::run(list, options),
         Command::Help => output::deliver(usage::HELP.as_bytes()).map(|_| 0),
-        Command::Version => {
-            let text = format!("proofscale {}, kit {}\n", report::TOOL, report::KIT);
-            output::deliver(text.as_bytes()).map(|_| 0)
-        }
+        Command::Version => output::deliver(report::versions_text().as_bytes()).map(|_| 0),
     }
 }
 

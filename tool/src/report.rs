@@ -11,9 +11,27 @@ use crate::store::Sizes;
 use crate::words;
 use std::ffi::OsStr;
 
-/// The version of the tool, and the kit that was on the path when it was built.
+/// The version of the tool; the kit that proved the library; the library's SHA-256, and whether it is that of the repository's dist/
+/// or one from PROOFSCALE_LIB; and the commit, if it was known when the tool was built.
 pub const TOOL: &str = env!("CARGO_PKG_VERSION");
 pub const KIT: &str = env!("PROOFSCALE_KIT");
+pub const LIBRARY: &str = env!("PROOFSCALE_LIBRARY");
+pub const ORIGIN: &str = env!("PROOFSCALE_ORIGIN");
+pub const COMMIT: &str = env!("PROOFSCALE_COMMIT");
+
+/// The versions, in words.
+pub fn versions_text() -> String {
+    let commit = if COMMIT.is_empty() { "unknown" } else { COMMIT };
+    format!("proofscale {TOOL}, kit {KIT}\nlibrary {LIBRARY} from {ORIGIN}\ncommit {commit}\n")
+}
+
+/// A line that names a library which is not the repository's own; nothing if it is.
+pub fn origin_line() -> String {
+    if ORIGIN == "dist" {
+        return String::new();
+    }
+    format!("The library is from {ORIGIN}, not the one that is handed out with the tool: SHA-256 {LIBRARY}.\n")
+}
 
 /// The line `answer A` or `answer A step N`.
 pub fn first_line(answer: Answer) -> String {
@@ -23,9 +41,9 @@ pub fn first_line(answer: Answer) -> String {
     }
 }
 
-/// The two lines of a check.
+/// The two lines of a check, and a third if the library is from elsewhere.
 pub fn check_text(report: &Report) -> String {
-    format!("{}\n{}\n", first_line(report.outcome.answer), sentence(report))
+    format!("{}\n{}\n{}", first_line(report.outcome.answer), sentence(report), origin_line())
 }
 
 /// The answer in one sentence.
@@ -112,7 +130,14 @@ fn always(enough: Sizes) -> String {
 
 /// The versions, as JSON.
 fn versions() -> Json {
-    Json::Object(vec![("tool", Json::text(TOOL)), ("kit", Json::text(KIT))])
+    let commit = if COMMIT.is_empty() { Json::Null } else { Json::text(COMMIT) };
+    Json::Object(vec![
+        ("tool", Json::text(TOOL)),
+        ("kit", Json::text(KIT)),
+        ("library_sha256", Json::text(LIBRARY)),
+        ("library_from", Json::text(ORIGIN)),
+        ("commit", commit),
+    ])
 }
 
 /// A report of a command: what it is, then its members, then the versions.

@@ -28,7 +28,9 @@ options:
   --jobs N      of batch: how many pairs at a time; they share the store's SIZE
   --quiet       no report and no progress, only the exit status (and what --json or `write` has to say)
   --help        this text
-  --version     the versions of the tool and of the kit that proved the library
+  --version     the versions of the tool and of the kit that proved the library, the library's SHA-256, and the commit
+
+In the repository, the script ./proofscale has two commands more: prove (proves the library anew, and compares) and install PREFIX.
 ";
 
 /// What is to be done.

@@ -398,6 +398,13 @@ fn wrong_usage_is_64() {
     }
 }
 
+/// The SHA-256 of the library that is handed out, which the tool has to be linked with.
+fn library_sum() -> String {
+    let archive = concat!(env!("CARGO_MANIFEST_DIR"), "/../dist/libproofscale.a");
+    let output = std::process::Command::new("sha256sum").arg(archive).output().expect("sha256sum runs");
+    String::from_utf8_lossy(&output.stdout)[..64].to_string()
+}
+
 #[test]
 fn help_and_version_are_for_standard_output() {
     let folder = Folder::new();
@@ -406,7 +413,8 @@ fn help_and_version_are_for_standard_output() {
     help.mentions(&["check FORMULA PROOF", "--store", "--json", "--jobs", "--quiet", "64", "66", "74", "70"]);
     let version = folder.run(&["--version"]);
     assert_eq!(version.status, 0);
-    assert!(version.out.starts_with(concat!("proofscale ", env!("CARGO_PKG_VERSION"), ", kit ")), "{version:?}");
+    assert!(version.out.starts_with(concat!("proofscale ", env!("CARGO_PKG_VERSION"), ", kit rattle-kit-")), "{version:?}");
+    version.mentions(&[&format!("library {} from dist", library_sum()), "commit "]);
     assert_eq!(folder.run(&["check", "--help"]).status, 0);
 }
 
@@ -630,7 +638,8 @@ fn json_of_a_check() {
     assert!(json.number("turns") > 0.0 && json.number("seconds") >= 0.0 && json.number("runs") >= 1.0);
     assert!(json.number("store.bytes") > 0.0 && json.number("store.heads") > 0.0);
     assert_eq!(json.text("versions.tool"), env!("CARGO_PKG_VERSION"));
-    assert!(!json.text("versions.kit").is_empty());
+    assert!(json.text("versions.kit").starts_with("rattle-kit-"));
+    assert_eq!((json.text("versions.library_sha256"), json.text("versions.library_from")), (library_sum().as_str(), "dist"));
     assert_eq!(json.at("place"), &Json::Null);
 }
 
