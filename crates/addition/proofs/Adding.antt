@@ -12,7 +12,8 @@ use lib.ListN.{length, getD, take, drop, length-take, drop-of-length-le}
 use lib.Seq.{slice, slice-cons, length-slice, length-take-le, getD-drop, getD-take}
 use Rattle.meaning.specs.Meaning.{Literal, Clause}
 use Rattle.rules.specs.Steps.{Hint}
-use Rattle.rules.specs.Judging.{Ground as Fault, idNotFresh, noConflict, groupsDontMatch, oppositeLiterals, Live, opposite, containing, mismatch, hasOpposites, Trail, Taken, conflict, badHint, hintsEnd, takeHints, leading, groups, groupsFault, afterHints, hintsFault, additionFault}
+use Rattle.rules.specs.Judging.{Ground as Fault, idNotFresh, noConflict, groupsDontMatch, oppositeLiterals, Live, opposite, containing, mismatch, hasOpposites, Trail}
+use Rattle.rules.specs.Judging.{Taken, conflict, badHint, hintsEnd, takeHints, leading, groups, groupsFault, afterHints, hintsFault, additionFault}
 use Rattle.clauses.specs.Codes.{literalOf, oppositeCode, hintOf}
 use Rattle.clauses.specs.Store.{liveOf}
 use Rattle.clauses.specs.Counting.{Counts}
@@ -116,7 +117,8 @@ module _ (heads lits : List ℕ) (n : ℕ) (marks hints : List ℕ) (fit : Fit h
         back = j .back;
         laid = j .laid;
         says = λ a s.
-            says-more (groupsFault live a (literalOf q) (groupsFrom hints from)) (afterHints live a (clauseIn lits used end) (groups (map hintOf hints))) (length tape) (t + m + (length hints - from)) (length tape) (t + m + (length hints - from)) v
+            says-more (groupsFault live a (literalOf q) (groupsFrom hints from)) (afterHints live a (clauseIn lits used end) (groups (map hintOf hints))) (length tape) (t + m + (length hints - from))
+            (length tape) (t + m + (length hints - from)) v
             (rest-groups a) refl (omega arith) (j .says a s);
         counted = omega (arith, j .counted, together .first);
         bounded = omega (arith, j .bounded, rest-turns, together .at-most);
@@ -197,7 +199,13 @@ module _ (heads lits : List ℕ) (n : ℕ) (marks hints : List ℕ) (used end : 
 
     taken-few : counted + taken ≤ costs (length lits) from
     taken-few =
-        omega (arith, takes .outcome (map opposite k) (begun .shows refl) .most 64 (omega (arith, begun .ready .store .room)), cost-most now-live (length lits) (ready-short heads lits n marks (begun .ready)) (idsIn hints 0 from) (map opposite k), from-long, ap (costs (length lits)) from-long)
+        omega (
+          arith,
+          takes .outcome (map opposite k) (begun .shows refl) .most 64 (omega (arith, begun .ready .store .room)),
+          cost-most now-live (length lits) (ready-short heads lits n marks (begun .ready)) (idsIn hints 0 from) (map opposite k),
+          from-long,
+          ap (costs (length lits)) from-long,
+        )
 
     both-costs : costs (length lits) (length hints) ≡ costs (length lits) from + costs (length lits) (length hints - from)
     both-costs = ap (costs (length lits)) (let sum : length hints ≡ from + (length hints - from) = omega (arith, first .group .within) in sum) ∙ costs-add (length lits) from (length hints - from)
@@ -229,7 +237,8 @@ module _ (heads lits : List ℕ) (n : ℕ) (marks hints : List ℕ) (used end : 
       }
 
     -- They have not.
-    pub hints-other : (b : Bool) → b ≡ endedAt how → b ≡ false → (before passed sum : ℕ) → Counts before counted passed → Counts passed taken sum → (v : Verdict) → v ≡ verdictBy how 0 → JudgesHints now-live n lits hints k marks tape t before m₁ tape₁ v t₁ sum
+    pub hints-other : (b : Bool) → b ≡ endedAt how → b ≡ false → (before passed sum : ℕ) → Counts before counted passed → Counts passed taken sum → (v : Verdict) → v ≡ verdictBy how 0 → JudgesHints
+        now-live n lits hints k marks tape t before m₁ tape₁ v t₁ sum
     hints-other b is-b f before passed sum first-two all-three v e = record {
       laid = takes .laid;
       few = omega (arith, few-there, first .group .within);
@@ -244,7 +253,8 @@ module _ (heads lits : List ℕ) (n : ℕ) (marks hints : List ℕ) (used end : 
 -- Behind rule 2
 
 module _ (live : Live) (n : ℕ) (lits hints : List ℕ) (k : Clause) (f : Falsity) (marks tape : List ℕ) (t before : ℕ) where
-  pub behind-false : (marks′ tape′ : List ℕ) (v : Verdict) (t′ turns : ℕ) → f ≡ AllFalse → JudgesHints live n lits hints k marks tape t before marks′ tape′ v t′ turns → JudgesBehind live n lits hints k f marks tape t before marks′ tape′ v t′ turns
+  pub behind-false : (marks′ tape′ : List ℕ) (v : Verdict) (t′ turns : ℕ) → f ≡ AllFalse → JudgesHints live n lits hints k marks tape t before marks′ tape′ v t′ turns → JudgesBehind live n lits hints k
+      f marks tape t before marks′ tape′ v t′ turns
   behind-false marks′ tape′ v t′ turns e j = record { laid = j .laid; few = j .few; case = rw e (j .says); counted = j .counted; bounded = j .bounded }
 
   behind-still : (v : Verdict) → t ≤ length tape → BehindCase live hints k (length tape) (t + length lits + length hints) v f → JudgesBehind live n lits hints k f marks tape t before marks tape v t before

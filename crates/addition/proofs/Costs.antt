@@ -74,7 +74,8 @@ module _ (heads lits : List ℕ) (n : ℕ) (marks : List ℕ) (ready : Ready hea
   clause-short k h =
       let below : startAt heads (k + 1) ≤ length lits = omega (arith, start-below heads lits n (ready .used) (ready .last) (ready .store) (k + 1) (omega arith), ready .store .fits) in
       let is : clauseAt heads lits k ≡ map literalOf (slice (startAt heads k) (startAt heads (k + 1)) lits) = clause-is heads lits k (startAt heads k) (startAt heads (k + 1)) refl refl in
-      let long : length (clauseAt heads lits k) ≡ startAt heads (k + 1) - startAt heads k = ap length is ∙ (length-map (slice (startAt heads k) (startAt heads (k + 1)) lits) literalOf ∙ length-slice (startAt heads k) (startAt heads (k + 1)) lits below) in
+      let long : length (clauseAt heads lits k) ≡ startAt heads (k + 1) - startAt heads k =
+      ap length is ∙ (length-map (slice (startAt heads k) (startAt heads (k + 1)) lits) literalOf ∙ length-slice (startAt heads k) (startAt heads (k + 1)) lits below) in
       omega arith
 
   pub ready-short : (id : ℕ) (c : Clause) → find id (liveOf heads lits n) ≡ some c → length c ≤ length lits

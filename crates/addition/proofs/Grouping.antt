@@ -171,7 +171,14 @@ module _ (heads lits : List ℕ) (n : ℕ) (marks hints : List ℕ) (fit : Fit h
         -- The turns of the group but for those of its hints can be counted, since no slice is that long.
         pub place-room : length lits * 4 < 2 ^ 63 → length tape * 4 < 2 ^ 63 → length hints * 4 < 2 ^ 63 → before + counted + 1 + back < 2 ^ 64
         place-room shortLits shortTape shortHints =
-            omega (arith, there-passed live n lits part marks tape t q d (idsIn hints from to) part-found part-long m₁ tape₁ f t₁ passed fell m₂ tape₂ v t₂ taken tried f (fell .so-many), tried .laid .room, tried .laid .long, fell .laid .long, span .inside)
+            omega (
+              arith,
+              there-passed live n lits part marks tape t q d (idsIn hints from to) part-found part-long m₁ tape₁ f t₁ passed fell m₂ tape₂ v t₂ taken tried f (fell .so-many),
+              tried .laid .room,
+              tried .laid .long,
+              fell .laid .long,
+              span .inside,
+            )
 
         pub place-judged : length heads < 2 ^ 64 → (all : ℕ) → Counts (before + counted + 1 + back) taken all → JudgesGroup live lits marks tape t q d (idsIn hints from to) before m₃ tape₂ v all
         place-judged long all together =
@@ -303,7 +310,15 @@ module _ (heads lits : List ℕ) (n : ℕ) (hints : List ℕ) (from : ℕ) (mark
 
     now-bounded : sum ≤ before + costs (length lits) (next - from)
     now-bounded =
-        omega (arith, k .bounded, j .bounded, ap (costs (length lits)) many, costs-add (length lits) (at - from) (next - at), ap (costs (length lits)) (let both : (at - from) + (next - at) ≡ next - from = omega (arith, k .later, one .passed .later) in both), together .at-most)
+        omega (
+          arith,
+          k .bounded,
+          j .bounded,
+          ap (costs (length lits)) many,
+          costs-add (length lits) (at - from) (next - at),
+          ap (costs (length lits)) (let both : (at - from) + (next - at) ≡ next - from = omega (arith, k .later, one .passed .later) in both),
+          together .at-most,
+        )
 
     pub going-on : (b : Bool) → b ≡ endsAt v → b ≡ false → Going all-live lits hints from marks₀ tape₀ t q before marks′ tape′ next sum
     going-on b e f = record {

@@ -281,8 +281,10 @@ module _ (clause marks : List ℕ) (others last i : ℕ) (l : Looking clause mar
   looking-more end some more = record { says = λ a s. all end a s ∙ ap (concluded a) (open-more others last (omega arith)); forced = tt }
 
 -- One turn: the literal at i, and the one behind it or the same once more.
-pub looking-two : (clause marks : List ℕ) (others last i : ℕ) → Looking clause marks others last i → Marked clause marks → i < length clause → Paired marks → (at : ℕ) → at ≡ getD clause i 0 → (first middle : ℕ) → Counted last (getD clause i 0) (getD marks at 0) first → Latest last (getD clause i 0) (getD marks at 0) middle
-    → (j : ℕ) → Behind i (length clause) j → (back : ℕ) → back ≡ getD clause j 0 → (second last′ : ℕ) → Counted middle (getD clause j 0) (getD marks back 0) second → Latest middle (getD clause j 0) (getD marks back 0) last′ → Looking clause marks (others + first + second) last′ (i + 2)
+pub looking-two : (clause marks : List ℕ) (others last i : ℕ) → Looking clause marks others last i → Marked clause marks → i < length clause → Paired marks → (at : ℕ) → at ≡ getD clause i
+    0 → (first middle : ℕ) → Counted last (getD clause i 0) (getD marks at 0) first → Latest last (getD clause i 0) (getD marks at 0) middle
+    → (j : ℕ) → Behind i (length clause) j → (back : ℕ) → back ≡ getD clause j 0 → (second last′ : ℕ) → Counted middle (getD clause j 0) (getD marks back 0) second → Latest middle (getD clause j 0)
+    (getD marks back 0) last′ → Looking clause marks (others + first + second) last′ (i + 2)
 looking-two clause marks others last i l known more paired at e first middle k m j b back e′ second last′ k′ m′ =
     let one = looking-on clause marks others last i l known more paired at e first middle k m in
     let two : i + 1 + 1 ≡ i + 2 = omega arith in

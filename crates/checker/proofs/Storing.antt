@@ -62,7 +62,8 @@ in-clauses heads lits (suc n) b o fits i h =
     there : (j : ℕ) → i ≡ startAt heads n + j → InClause (getD lits i 0 / 2) (clauseAt heads lits n)
     there j e =
         let long : length (slice (startAt heads n) (startAt heads (suc n)) lits) ≡ startAt heads (suc n) - startAt heads n = length-slice (startAt heads n) (startAt heads (suc n)) lits fits in
-        let is : getD (slice (startAt heads n) (startAt heads (suc n)) lits) j 0 ≡ getD lits i 0 = getD-drop (startAt heads n) (take (startAt heads (suc n)) lits) j 0 ∙ (ap (λ (k : ℕ). getD (take (startAt heads (suc n)) lits) k 0) (sym e) ∙ getD-take (startAt heads (suc n)) lits i 0 h) in
+        let is : getD (slice (startAt heads n) (startAt heads (suc n)) lits) j 0 ≡ getD lits i 0 =
+        getD-drop (startAt heads n) (take (startAt heads (suc n)) lits) j 0 ∙ (ap (λ (k : ℕ). getD (take (startAt heads (suc n)) lits) k 0) (sym e) ∙ getD-take (startAt heads (suc n)) lits i 0 h) in
         rw (clause-is heads lits n (startAt heads n) (startAt heads (suc n)) refl (ap (startAt heads) next), ← is)
         (in-clause (slice (startAt heads n) (startAt heads (suc n)) lits) j (omega (arith, long)))
 

@@ -290,7 +290,8 @@ module _ (heads₀ lits₀ : List ℕ) (n used₀ last₀ : ℕ) (s : Store head
             ∙ (ap (λ (x : ℕ). getD lits (x + j) 0) start-there ∙ c .lits-rest (startAt heads₀ k + j) (omega arith))) in
             rw here (f (startAt heads₀ k + j) (omega (arith, size-is)))
 
-    pub compacting-keep : Compacting heads₀ lits₀ n (written heads m (idAt heads k) (w + (startAt heads (k + 1) - startAt heads k))) lits′ (k + 1) (m + 1) (w + (startAt heads (k + 1) - startAt heads k)) (moves + (startAt heads (k + 1) - startAt heads k)) (turns + 1)
+    pub compacting-keep : Compacting heads₀ lits₀ n (written heads m (idAt heads k) (w + (startAt heads (k + 1) - startAt heads k))) lits′ (k + 1) (m + 1) (w + (startAt heads (k + 1) - startAt heads k))
+        (moves + (startAt heads (k + 1) - startAt heads k)) (turns + 1)
     unfolding after size
     compacting-keep = record {
       within = omega arith;

@@ -40,7 +40,9 @@ module _ (before : List ℕ) (used : ℕ) (new after : List ℕ) (end : ℕ) (fi
   pub placed-slice : slice used end after ≡ new
   placed-slice =
       let split : end ≡ length (take used before) + length new = omega (arith, front-long, p .count) in
-      let upto : take end after ≡ take used before ++ new = rw (p .stored, split) (take-append-add (take used before) (new ++ drop (length (take used before) + length new) before) (length new) ∙ ap (λ (l : List ℕ). take used before ++ l) (take-at new (drop (length (take used before) + length new) before) (length new) refl)) in
+      let upto : take end after ≡ take used before ++ new =
+      rw (p .stored, split) (take-append-add (take used before) (new ++ drop (length (take used before) + length new) before) (length new) ∙ ap (λ (l : List ℕ). take used before ++ l)
+      (take-at new (drop (length (take used before) + length new) before) (length new) refl)) in
       ap (drop used) upto ∙ drop-at (take used before) new used front-long
 
   -- Every number up to `end` is one that was there up to `used`, or a new one.

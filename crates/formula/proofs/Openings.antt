@@ -107,7 +107,8 @@ module _ (x : ℕ) (s : List ℕ) (at i : ℕ) (r : Seeking x s at i) where
     seeking-on e =
         let test = ne-eqb (getD s i 0) x e in
         let goes : before x (drop i s) ≡ getD s i 0 ∷ before x (drop (i + 1) s) = rw (add-one i, drop-cons s i 0 h, test, before) in
-        let more : slice at i s ++ (getD s i 0 ∷ before x (drop (i + 1) s)) ≡ slice at (i + 1) s ++ before x (drop (i + 1) s) = rw (slice-more at i s (r .later) h, append-assoc (slice at i s) (getD s i 0 ∷ []) (before x (drop (i + 1) s))) in
+        let more : slice at i s ++ (getD s i 0 ∷ before x (drop (i + 1) s)) ≡ slice at (i + 1) s ++ before x (drop (i + 1) s) =
+        rw (slice-more at i s (r .later) h, append-assoc (slice at i s) (getD s i 0 ∷ []) (before x (drop (i + 1) s))) in
         record {
           ahead = r .ahead ∙ ap (λ (t : List ℕ). slice at i s ++ t) goes ∙ more;
           rest = r .rest ∙ rw (add-one i, drop-cons s i 0 h, test, behind);

@@ -280,8 +280,16 @@ module _ (heads lits : List ℕ) (n : ℕ) (hints : List ℕ) (from to : ℕ) (m
           let l = k .left a s in
           record {
             says = rw (same-now a l) (stop-says live marks tape t id (one .literals) marks′ t′ (l .now) (l .shows) (idsIn hints (i + 1) to) effect (one .case) y);
-            least = stop-least live marks tape t id (one .literals) marks′ t′ (l .now) (l .shows) (idsIn hints (i + 1) to) sum (cost 0 live a (idsIn hints from to)) (λ few. least-now a l (cost 0 live a (idsIn hints from to)) (omega (arith, few, one .counted))) effect (one .case) y;
-            most = λ b m. omega (arith, most-now a l b m, cost-at-least live marks tape t id (one .literals) marks′ t′ (l .now) (l .shows) (idsIn hints (i + 1) to) b effect (one .case), halvings-below n (one .search) b (one .halvings) m, one .counted, together .at-most);
+            least = stop-least live marks tape t id (one .literals) marks′ t′ (l .now) (l .shows) (idsIn hints (i + 1) to) sum (cost 0 live a (idsIn hints from to))
+                (λ few. least-now a l (cost 0 live a (idsIn hints from to)) (omega (arith, few, one .counted))) effect (one .case) y;
+            most = λ b m. omega (
+              arith,
+              most-now a l b m,
+              cost-at-least live marks tape t id (one .literals) marks′ t′ (l .now) (l .shows) (idsIn hints (i + 1) to) b effect (one .case),
+              halvings-below n (one .search) b (one .halvings) m,
+              one .counted,
+              together .at-most,
+            );
           };
     }
 
@@ -317,6 +325,14 @@ module _ (heads lits : List ℕ) (n : ℕ) (hints : List ℕ) (from to : ℕ) (m
                 least =
                     least-now a l (cost 0 live a (idsIn hints from to) - cost 0 live (literalOf (f .code) ∷ l .now) (idsIn hints (i + 1) to))
                     (omega (arith, cost-forces live (l .now) id (idsIn hints (i + 1) to) (seen .clause) (seen .found) 0 (literalOf (f .code)) look, seen .many, one .counted));
-                most = λ b h. omega (arith, most-now a l b h, cost-forces live (l .now) id (idsIn hints (i + 1) to) (seen .clause) (seen .found) b (literalOf (f .code)) look, seen .many, one .counted, halvings-below n (one .search) b (one .halvings) h, together .at-most);
+                most = λ b h. omega (
+                  arith,
+                  most-now a l b h,
+                  cost-forces live (l .now) id (idsIn hints (i + 1) to) (seen .clause) (seen .found) b (literalOf (f .code)) look,
+                  seen .many,
+                  one .counted,
+                  halvings-below n (one .search) b (one .halvings) h,
+                  together .at-most,
+                );
               };
         }

@@ -62,18 +62,21 @@ module _ (s : List ℕ) (from first limit : ℕ) (slots₀ slots : List ℕ) (i 
     unfolding literalFed
     literal-more cells start used lits₀ hints₀ hints n many lc lm rd =
         let t = taken maxVariable lm in
-        let fed : FedBy (itemOf maxVariable (t .token)) end cells slots slots′ (literalFed n end) (More (phaseOf Literals n (end + 1) 0)) = record { kept = Stored; keeps = record { case = (code, t .is, omega arith, room, put) }; is = refl } in
+        let fed : FedBy (itemOf maxVariable (t .token)) end cells slots slots′ (literalFed n end) (More (phaseOf Literals n (end + 1) 0)) =
+        record { kept = Stored; keeps = record { case = (code, t .is, omega arith, room, put) }; is = refl } in
         subst
         (λ (k : ℕ). Reading cells s start used lits₀ hints₀ slots′ hints (i + r % 16) (phaseOf Literals n (end + 1) k))
         (sym (no-hints cells s start used lits₀ hints₀ slots hints i n end many rd))
-        (reading-on cells s start used lits₀ hints₀ slots hints i (phaseOf Literals n end many) rd (t .token) (i + r % 16) (t .scan) slots′ hints _ (feeds-literal (phaseOf Literals n end many) (t .token) cells slots hints slots′ _ refl fed) _ refl)
+        (reading-on cells s start used lits₀ hints₀ slots hints i (phaseOf Literals n end many) rd (t .token) (i + r % 16) (t .scan) slots′ hints _
+        (feeds-literal (phaseOf Literals n end many) (t .token) cells slots hints slots′ _ refl fed) _ refl)
 
     hint-more : (cells start used : ℕ) (lits₀ hints₀ lits : List ℕ) (n place : ℕ) → limit ≤ 2 * maxId + 2 → Reading cells s start used lits₀ hints₀ lits slots i (phaseOf Hints n place end)
         → Reading cells s start used lits₀ hints₀ lits slots′ (i + r % 16) (phaseOf Hints n place (end + 1))
     unfolding hintFed
     hint-more cells start used lits₀ hints₀ lits n place lm rd =
         let t = taken maxId lm in
-        let fed : FedBy (itemOf maxId (t .token)) end codes slots slots′ (hintFed n place end) (More (phaseOf Hints n place (end + 1))) = record { kept = Stored; keeps = record { case = (code, t .is, omega arith, room, put) }; is = refl } in
+        let fed : FedBy (itemOf maxId (t .token)) end codes slots slots′ (hintFed n place end) (More (phaseOf Hints n place (end + 1))) =
+        record { kept = Stored; keeps = record { case = (code, t .is, omega arith, room, put) }; is = refl } in
         reading-on cells s start used lits₀ hints₀ lits slots i (phaseOf Hints n place end) rd (t .token) (i + r % 16) (t .scan) lits slots′ _ (feeds-hint (phaseOf Hints n place end) (t .token) cells lits slots refl slots′ _ fed) _ refl
 
     pub along-more : (bytes : ℕ) → bytes ≡ r % 16 → Along s from first limit slots₀ slots′ (i + bytes) (end + 1)

@@ -54,7 +54,8 @@ said-digits s first from (suc n) zero v i e d a l g m h = absurd (omega arith)
 said-digits s first from (suc n) (suc k) v i e d a l g m h =
     let p : i + 1 + n ≡ i + suc n = omega arith in
     let one : v * 10 + e % 256 ≤ most = omega (arith, m, said-least n (v * 10 + e % 256) (e / 256)) in
-    rw p at (said-digits s first from n k (v * 10 + e % 256) (i + 1) (e / 256) (digit-more s first from v i (e % 256) d (omega arith) (above-byte s i k e a (g .0)) (g .0) one) (above-rest s i k e a (g .0)) (omega arith) (g .1) m (omega arith))
+    rw p at (said-digits s first from n k (v * 10 + e % 256) (i + 1) (e / 256) (digit-more s first from v i (e % 256) d (omega arith) (above-byte s i k e a (g .0)) (g .0) one)
+    (above-rest s i k e a (g .0)) (omega arith) (g .1) m (omega arith))
 
 -- A 0 in front says nothing.
 said-nought : (n p x : ℕ) → n ≡ suc p → x % 256 ≡ 0 → said n 0 x ≡ said p 0 (x / 256)
@@ -70,7 +71,8 @@ pub record UnsignedNumber (s : List ℕ) (at size bytes : ℕ) : Type 0 where
   pub number : Positive (at + 1) (drop (at + 1) s) size (at + bytes)
 
 -- A digit other than 0 is first, and a space is behind the last.
-unsigned-said : (s : List ℕ) (at n k e : ℕ) → Above s (at + 1) k e → 1 ≤ n → n ≤ k → EachUpTo 9 n e → said n 0 e ≤ most → at + 1 + n < length s → 49 ≤ getD s (at + 1) 0 → getD s (at + 1) 0 ≤ 57 → getD s (at + 1 + n) 0 ≡ 32 → UnsignedNumber s at (said n 0 e) (n + 1)
+unsigned-said : (s : List ℕ) (at n k e : ℕ) → Above s (at + 1) k e → 1 ≤ n → n ≤ k → EachUpTo 9 n e → said n 0 e ≤ most → at + 1 + n < length s → 49 ≤ getD s (at + 1) 0 → getD s (at + 1) 0 ≤ 57 → getD
+    s (at + 1 + n) 0 ≡ 32 → UnsignedNumber s at (said n 0 e) (n + 1)
 unfolding said
 unsigned-said s at zero k e a o l g m h lo hi space = absurd (omega arith)
 unsigned-said s at (suc n) zero e a o l g m h lo hi space = absurd (omega arith)
@@ -82,7 +84,8 @@ unsigned-said s at (suc n) (suc k) e a o l g m h lo hi space =
     let last : at + 1 + 1 + n ≡ at + (suc n + 1) = omega arith in
     let end : at + 1 + suc n ≡ at + (suc n + 1) = omega arith in
     let there : getD s (at + (suc n + 1)) 0 ≡ 32 = (rw end at space) in
-    let d : Digits s (e % 256) (at + 1 + 1) (said n (e % 256) (e / 256)) (at + (suc n + 1)) = (rw last at (said-digits s (e % 256) (at + 1 + 1) n k (e % 256) (at + 1 + 1) (e / 256) (digits-start s (e % 256) (at + 1 + 1) (omega (arith, g .0))) (above-rest s (at + 1) k e a (g .0)) (omega arith) (g .1) f (omega arith))) in
+    let d : Digits s (e % 256) (at + 1 + 1) (said n (e % 256) (e / 256)) (at + (suc n + 1)) =
+    (rw last at (said-digits s (e % 256) (at + 1 + 1) n k (e % 256) (at + 1 + 1) (e / 256) (digits-start s (e % 256) (at + 1 + 1) (omega (arith, g .0))) (above-rest s (at + 1) k e a (g .0)) (omega arith) (g .1) f (omega arith))) in
     let ends = ends-at s (at + (suc n + 1)) (omega arith) ∙ sym (blank-space (getD s (at + (suc n + 1)) 0) there) in
     let behind : Numbered (e % 256) (at + 1 + 1) (drop (at + 1 + 1) s) (said n (e % 256) (e / 256)) (at + (suc n + 1)) = d .back _ _ (numbered-end s (at + (suc n + 1)) (said n (e % 256) (e / 256)) (d .small) ends) in
     rw z record {
@@ -117,7 +120,8 @@ module _ (s : List ℕ) (at : ℕ) where
         scans-word s at (at + 1) (Minus size) (at + 1 + bytes) (one-blank (rw e))
         (settle-found s (at + 1) (Minus size) (at + 1 + bytes) (sign-minus s (at + 1) h size (at + 1 + bytes) e (u .number) (λ z. omega (arith, u .positive))) refl)
 
-    module _ (w n sign first d : ℕ) (long : at + 16 ≤ length s) (e : Bytes s (at + 1) 8 w) (some : 1 ≤ n) (few : n ≤ 7) (behind : getD s (at + 1 + n) 0 ≡ 32) (g : Sign (getD s (at + 1) 0) sign) (f : AboveNought (getD s (at + 1 + sign) 0) first) (lo : 1 ≤ first) (hi : first ≤ 9) (m : MovedUp w sign n d) (each : EachAtMost 9 8 d) where
+    module _ (w n sign first d : ℕ) (long : at + 16 ≤ length s) (e : Bytes s (at + 1) 8 w) (some : 1 ≤ n) (few : n ≤ 7) (behind : getD s (at + 1 + n) 0 ≡ 32) (g : Sign (getD s (at + 1) 0) sign)
+        (f : AboveNought (getD s (at + 1 + sign) 0) first) (lo : 1 ≤ first) (hi : first ≤ 9) (m : MovedUp w sign n d) (each : EachAtMost 9 8 d) where
       is-moved : d ≡ m .difference * 256 ^ (8 - n) % 256 ^ (8 - n + n)
       is-moved =
           let bits : 64 - 8 * n ≡ 8 * (8 - n) = omega arith in
@@ -136,7 +140,8 @@ module _ (s : List ℕ) (at : ℕ) where
       plus-some none =
           let b : getD s (at + 1) 0 ≡ first + 48 = (let p : at + 1 + sign ≡ at + 1 = omega arith in rw p at (f .is (omega arith))) in
           let above : Above s (at + 1) 8 (m .difference) = record { is = (rw none at (m .is)) ∙ e .is; bytes = λ j l r. e .bytes j l r } in
-          let u : UnsignedNumber s at (said 8 0 d) (n + 1) = (rw number (unsigned-said s at n 8 (m .difference) above some (omega arith) worths (rw (← number) (omega (arith, said-most d each))) (omega arith) (omega arith) (omega arith) behind)) in
+          let u : UnsignedNumber s at (said 8 0 d) (n + 1) =
+          (rw number (unsigned-said s at n 8 (m .difference) above some (omega arith) worths (rw (← number) (omega (arith, said-most d each))) (omega arith) (omega arith) (omega arith) behind)) in
           let size : (said 8 0 d * 32 + 16 * sign + (n + 1)) / 16 ≡ 2 * said 8 0 d = omega arith in
           let bytes : (said 8 0 d * 32 + 16 * sign + (n + 1)) % 16 ≡ n + 1 = omega (arith, size) in
           record { is = λ k. record { size = said 8 0 d; positive = u .positive; case = inl (size, rw bytes (scans-plus (said 8 0 d) (n + 1) u)) } }
@@ -154,7 +159,9 @@ module _ (s : List ℕ) (at : ℕ) where
           let above : Above s (at + 1 + 1) 7 (m .difference / 256) = record { is = sym (parts .1); bytes = λ j l r. e .bytes j (omega arith) (omega arith) } in
           let value : said 8 0 d ≡ said (n - 1) 0 (m .difference / 256) = number ∙ said-nought n (n - 1) (m .difference) p (omega (arith, parts .0)) in
           let space : getD s (at + 1 + 1 + (n - 1)) 0 ≡ 32 = (let q : at + 1 + 1 + (n - 1) ≡ at + 1 + n = omega arith in rw q behind) in
-          let u : UnsignedNumber s (at + 1) (said 8 0 d) n = (let q : n - 1 + 1 ≡ n = omega arith in rw value (rw q at (unsigned-said s (at + 1) (n - 1) 7 (m .difference / 256) above (omega arith) (omega arith) (peeled .1) (rw (← value) (omega (arith, said-most d each))) (omega arith) (omega arith) (omega arith) space))) in
+          let u : UnsignedNumber s (at + 1) (said 8 0 d) n =
+          (let q : n - 1 + 1 ≡ n = omega arith in
+          rw value (rw q at (unsigned-said s (at + 1) (n - 1) 7 (m .difference / 256) above (omega arith) (omega arith) (peeled .1) (rw (← value) (omega (arith, said-most d each))) (omega arith) (omega arith) (omega arith) space))) in
           let code : (said 8 0 d * 32 + 16 * sign + (n + 1)) / 16 ≡ 2 * said 8 0 d + 1 = omega arith in
           let bytes : at + (said 8 0 d * 32 + 16 * sign + (n + 1)) % 16 ≡ at + 1 + n = omega (arith, code) in
           record { is = λ k. record { size = said 8 0 d; positive = u .positive; case = inr (code, rw bytes (scans-minus (said 8 0 d) n minus u)) } }

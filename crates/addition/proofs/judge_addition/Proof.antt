@@ -11,7 +11,9 @@ returns : tie.Need-returns
 returns c = addition-stale _ _ _ _ _ _ _ _ _ _ _ (omega (arith, c .if1 .taken))
 
 slice-aggregate-judge-clause : tie.Need-slice-aggregate-judge-clause
-slice-aggregate-judge-clause c = sym (length-take-le (c .before .before .before .before .before .before .before .before .before .before .args .many) (c .before .before .before .before .before .before .before .before .before .before .args .hints .now) (c .before .before .before .before .before .before .before .before .before .before .pre .1))
+slice-aggregate-judge-clause c =
+    let at-args = c .before .before .before .before .before .before .before .before .before .before in
+    sym (length-take-le (at-args .args .many) (at-args .args .hints .now) (at-args .pre .1))
 
 judge-clause-requires : tie.Need-judge-clause-requires
 judge-clause-requires c κs = c .before .before .before .before .before .before .before .before .before .before .pre .0
@@ -23,7 +25,11 @@ same-length-2 : tie.Need-same-length-2
 same-length-2 c = search needs
 
 returns-2 : tie.Need-returns-2
-returns-2 c = addition-fresh _ _ _ _ _ _ _ _ _ _ _ (omega (arith, c .before .before .before .before .before .before .before .before .if1 .left)) (c .before .before .before .before .before .before .before .before .before .before .before .before .before .before .before .pre .1) _ _ _ _ (c .before .before .before .before .judge-clause .ensures)
+returns-2 c =
+    let at-judge-clause = c .before .before .before .before in
+    let at-if = at-judge-clause .before .before .before .before in
+    let at-pre = at-if .before .before .before .before .before .before .before in
+    addition-fresh _ _ _ _ _ _ _ _ _ _ _ (omega (arith, at-if .if1 .left)) (at-pre .pre .1) _ _ _ _ (at-judge-clause .judge-clause .ensures)
 
 pub judge-addition-spec : {M : Type 1} → statement M
 judge-addition-spec =

@@ -8,7 +8,9 @@ enum-told : tie.Need-enum-told
 enum-told c = search needs
 
 judge-hints-requires : tie.Need-judge-hints-requires
-judge-hints-requires c κs = (begun-false _ _ _ _ _ _ (c .before .before .before .before .before .before .before .before .before .before .pre .0) (c .before .before .enum-told .given .1), c .before .before .before .before .before .before .before .before .before .before .pre .1)
+judge-hints-requires c κs =
+    let at-pre = c .before .before .before .before .before .before .before .before .before .before in
+    (begun-false _ _ _ _ _ _ (at-pre .pre .0) (c .before .before .enum-told .given .1), at-pre .pre .1)
 
 enum-told-2 : tie.Need-enum-told-2
 enum-told-2 c = search needs

@@ -35,18 +35,53 @@ enum-known-found c = search needs
 
 add-judge-there : tie.Need-add-judge-there
 add-judge-there c =
-    let few = one-turns _ _ _ _ _ (c .before .before .before .before .before .before .before .before .before .before .before .before .before .before .before .pre .0) _ _ (c .before .before .before .before .before .before .before .before .before .before .before .before .before .before .before .pre .1 .1) _ _ (c .before .before .before .before .before .before .count .ensures) (c .before .before .before .before .before .lookup .result) (c .before .before .before .before .before .lookup .ensures .0) (c .before .before .before .before .before .lookup .ensures .1) (omega (arith, c .before .before .before .before .before .before .before .before .before .before .before .before .before .before .before .fits, c .before .before .before .before .before .before .before .before .before .before .before .before .before .before .before .good)) _ (ap turnsOf (c .before .before .before .found .given .1)) in
+    let few =
+    (let at-found = c .before .before .before in
+    let at-lookup = at-found .before .before in
+    let at-count = at-lookup .before in
+    let at-pre = at-count .before .before .before .before .before .before .before .before .before in
+    one-turns _ _ _ _ _ (at-pre .pre .0) _ _ (at-pre .pre .1 .1) _ _ (at-count .count .ensures) (at-lookup .lookup .result) (at-lookup .lookup .ensures .0) (at-lookup .lookup .ensures .1)
+    (omega (arith, at-pre .fits, at-pre .good)) _ (ap turnsOf (at-found .found .given .1))) in
     omega (arith, few, c .before .before .before .before .before .before .before .before .before .before .before .before .before .before .before .pre .1 .1 .is-next .group .within)
 
 judge-there-requires : tie.Need-judge-there-requires
-judge-there-requires c κs = (c .before .before .before .before .before .before .before .before .before .before .before .before .before .before .before .pre .0, (c .before .before .before .before .before .before .before .before .before .before .before .before .before .before .before .pre .1 .0, (group-span _ _ _ (c .before .before .before .before .before .before .before .before .before .before .before .before .before .before .before .pre .1 .1 .is-next), (one-placed _ _ _ _ _ (c .before .before .before .before .before .before .before .before .before .before .before .before .before .before .before .pre .0) _ _ (c .before .before .before .before .before .before .before .before .before .before .before .before .before .before .before .pre .1 .1) _ _ (c .before .before .before .before .before .before .count .ensures) (c .before .before .before .before .before .lookup .result) (c .before .before .before .before .before .lookup .ensures .0) (c .before .before .before .before .before .lookup .ensures .1) (omega (arith, c .before .before .before .before .before .before .before .before .before .before .before .before .before .before .before .fits, c .before .before .before .before .before .before .before .before .before .before .before .before .before .before .before .good)) _ _ (c .before .before .before .found .given .1), (ready-lookable _ _ _ _ (c .before .before .before .before .before .before .before .before .before .before .before .before .before .before .before .pre .0 .ready) _ (one-placed _ _ _ _ _ (c .before .before .before .before .before .before .before .before .before .before .before .before .before .before .before .pre .0) _ _ (c .before .before .before .before .before .before .before .before .before .before .before .before .before .before .before .pre .1 .1) _ _ (c .before .before .before .before .before .before .count .ensures) (c .before .before .before .before .before .lookup .result) (c .before .before .before .before .before .lookup .ensures .0) (c .before .before .before .before .before .lookup .ensures .1) (omega (arith, c .before .before .before .before .before .before .before .before .before .before .before .before .before .before .before .fits, c .before .before .before .before .before .before .before .before .before .before .before .before .before .before .before .good)) _ _ (c .before .before .before .found .given .1) .inside), one-turns _ _ _ _ _ (c .before .before .before .before .before .before .before .before .before .before .before .before .before .before .before .pre .0) _ _ (c .before .before .before .before .before .before .before .before .before .before .before .before .before .before .before .pre .1 .1) _ _ (c .before .before .before .before .before .before .count .ensures) (c .before .before .before .before .before .lookup .result) (c .before .before .before .before .before .lookup .ensures .0) (c .before .before .before .before .before .lookup .ensures .1) (omega (arith, c .before .before .before .before .before .before .before .before .before .before .before .before .before .before .before .fits, c .before .before .before .before .before .before .before .before .before .before .before .before .before .before .before .good)) _ (ap turnsOf (c .before .before .before .found .given .1)))))))
+judge-there-requires c κs =
+    let at-found = c .before .before .before in
+    let at-lookup = at-found .before .before in
+    let at-count = at-lookup .before in
+    let at-pre = at-count .before .before .before .before .before .before .before .before .before in (
+      at-pre .pre .0,
+      (
+        at-pre .pre .1 .0,
+        (
+          group-span _ _ _ (at-pre .pre .1 .1 .is-next),
+          (
+            one-placed _ _ _ _ _ (at-pre .pre .0) _ _ (at-pre .pre .1 .1) _ _ (at-count .count .ensures) (at-lookup .lookup .result) (at-lookup .lookup .ensures .0) (at-lookup .lookup .ensures .1)
+                (omega (arith, at-pre .fits, at-pre .good)) _ _ (at-found .found .given .1),
+            (
+              ready-lookable _ _ _ _ (at-pre .pre .0 .ready) _
+                  (one-placed _ _ _ _ _ (at-pre .pre .0) _ _ (at-pre .pre .1 .1) _ _ (at-count .count .ensures) (at-lookup .lookup .result) (at-lookup .lookup .ensures .0) (at-lookup .lookup .ensures .1)
+                  (omega (arith, at-pre .fits, at-pre .good)) _ _ (at-found .found .given .1) .inside),
+              one-turns _ _ _ _ _ (at-pre .pre .0) _ _ (at-pre .pre .1 .1) _ _ (at-count .count .ensures) (at-lookup .lookup .result) (at-lookup .lookup .ensures .0) (at-lookup .lookup .ensures .1)
+                  (omega (arith, at-pre .fits, at-pre .good)) _ (ap turnsOf (at-found .found .given .1)),
+            ),
+          ),
+        ),
+      ),
+    )
 
 enum-known-found-2 : tie.Need-enum-known-found-2
 enum-known-found-2 c = search needs
 
 add-t30 : tie.Need-add-t30
 add-t30 c =
-    let few = one-turns _ _ _ _ _ (c .before .before .before .before .before .before .before .before .before .before .before .before .before .pre .0) _ _ (c .before .before .before .before .before .before .before .before .before .before .before .before .before .pre .1 .1) _ _ (c .before .before .before .before .count .ensures) (c .before .before .before .lookup .result) (c .before .before .before .lookup .ensures .0) (c .before .before .before .lookup .ensures .1) (omega (arith, c .before .before .before .before .before .before .before .before .before .before .before .before .before .fits, c .before .before .before .before .before .before .before .before .before .before .before .before .before .good)) _ (ap turnsOf (c .before .found2 .given .1)) in
+    let few =
+    (let at-found = c .before in
+    let at-lookup = at-found .before .before in
+    let at-count = at-lookup .before in
+    let at-pre = at-count .before .before .before .before .before .before .before .before .before in
+    one-turns _ _ _ _ _ (at-pre .pre .0) _ _ (at-pre .pre .1 .1) _ _ (at-count .count .ensures) (at-lookup .lookup .result) (at-lookup .lookup .ensures .0) (at-lookup .lookup .ensures .1)
+    (omega (arith, at-pre .fits, at-pre .good)) _ (ap turnsOf (at-found .found2 .given .1))) in
     omega (arith, few, c .before .before .before .before .before .before .before .before .before .before .before .before .before .pre .1 .1 .is-next .group .within)
 
 same-length : tie.Need-same-length
@@ -56,10 +91,23 @@ same-length-2 : tie.Need-same-length-2
 same-length-2 c = search needs
 
 returns : tie.Need-returns
-returns c = one-judged _ _ _ _ _ (c .before .before .before .before .before .before .before .before .before .before .before .before .before .before .before .before .before .before .before .before .pre .0) _ _ (c .before .before .before .before .before .before .before .before .before .before .before .before .before .before .before .before .before .before .before .before .pre .1 .1) _ _ (c .before .before .before .before .before .before .before .before .before .before .before .count .ensures) (c .before .before .before .before .before .before .before .before .before .before .lookup .result) (c .before .before .before .before .before .before .before .before .before .before .lookup .ensures .0) (c .before .before .before .before .before .before .before .before .before .before .lookup .ensures .1) (omega (arith, c .before .before .before .before .before .before .before .before .before .before .before .before .before .before .before .before .before .before .before .before .fits, c .before .before .before .before .before .before .before .before .before .before .before .before .before .before .before .before .before .before .before .before .good)) _ _ _ (c .before .before .before .before .before .before .before .before .before .before .before .before .half .ensures .0) _ _ _ _ _ (c .before .before .before .before .judge-there .ensures)
+returns c =
+    let at-judge-there = c .before .before .before .before in
+    let at-lookup = at-judge-there .before .before .before .before .before .before in
+    let at-count = at-lookup .before in
+    let at-half = at-count .before in
+    let at-pre = at-half .before .before .before .before .before .before .before .before in
+    one-judged _ _ _ _ _ (at-pre .pre .0) _ _ (at-pre .pre .1 .1) _ _ (at-count .count .ensures) (at-lookup .lookup .result) (at-lookup .lookup .ensures .0) (at-lookup .lookup .ensures .1)
+    (omega (arith, at-pre .fits, at-pre .good)) _ _ _ (at-half .half .ensures .0) _ _ _ _ _ (at-judge-there .judge-there .ensures)
 
 returns-2 : tie.Need-returns-2
-returns-2 c = one-lacks _ _ _ _ _ (c .before .before .before .before .before .before .before .before .before .before .before .before .before .pre .0) _ _ (c .before .before .before .before .before .before .before .before .before .before .before .before .before .pre .1 .1) _ _ (c .before .before .before .before .count .ensures) (c .before .before .before .lookup .result) (c .before .before .before .lookup .ensures .0) (c .before .before .before .lookup .ensures .1) (omega (arith, c .before .before .before .before .before .before .before .before .before .before .before .before .before .fits, c .before .before .before .before .before .before .before .before .before .before .before .before .before .good)) _ _ _ (c .before .before .before .before .before .half .ensures .0) (c .before .before .before .before .before .before .before .before .before .before .before .before .before .pre .1 .0) _ (c .before .found2 .given .1)
+returns-2 c =
+    let at-lookup = c .before .before .before in
+    let at-count = at-lookup .before in
+    let at-half = at-count .before in
+    let at-pre = at-half .before .before .before .before .before .before .before .before in
+    one-lacks _ _ _ _ _ (at-pre .pre .0) _ _ (at-pre .pre .1 .1) _ _ (at-count .count .ensures) (at-lookup .lookup .result) (at-lookup .lookup .ensures .0) (at-lookup .lookup .ensures .1)
+    (omega (arith, at-pre .fits, at-pre .good)) _ _ _ (at-half .half .ensures .0) (at-pre .pre .1 .0) _ (c .before .found2 .given .1)
 
 pub judge-group-spec : {M : Type 1} → statement M
 judge-group-spec =

@@ -26,7 +26,11 @@ next-group-requires : tie.Need-next-group-requires Inv-loop μ-loop
 next-group-requires c κs = search needs
 
 judge-group-requires : tie.Need-judge-group-requires Inv-loop μ-loop
-judge-group-requires c κs = (going-fit _ _ _ _ _ _ _ _ _ _ _ _ _ _ (c .before .before .before .before .loop .inv) (c .before .before .before .before .before .before .before .before .before .before .before .pre .0), (c .before .before .before .before .loop .inv .laid .room, record { more = c .before .before .before .loop-test .taken; is-next = c .before .before .next-group .ensures }))
+judge-group-requires c κs =
+    let at-loop-test = c .before .before .before in
+    let at-loop = at-loop-test .before in
+    let at-pre = at-loop .before .before .before .before .before .before .before in
+    (going-fit _ _ _ _ _ _ _ _ _ _ _ _ _ _ (at-loop .loop .inv) (at-pre .pre .0), (at-loop .loop .inv .laid .room, record { more = at-loop-test .loop-test .taken; is-next = c .before .before .next-group .ensures }))
 
 plus-requires : tie.Need-plus-requires Inv-loop μ-loop
 plus-requires c κs = search needs
@@ -41,13 +45,30 @@ same-length-2 : tie.Need-same-length-2 Inv-loop μ-loop
 same-length-2 c = c .before .before .before .before .before .before .before .judge-group .ensures .laid .long ∙ c .before .before .before .before .before .before .before .before .before .before .before .before .loop .inv .laid .long
 
 returns : tie.Need-returns Inv-loop μ-loop
-returns c = going-stop _ _ _ _ _ _ _ _ _ _ _ _ _ _ (c .before .before .before .before .before .before .before .before .before .before .before .before .loop .inv) (c .before .before .before .before .before .before .before .before .before .before .before .before .before .before .before .before .before .before .before .pre .0) (c .before .before .before .before .before .before .before .before .before .before .before .loop-test .taken) _ (c .before .before .before .before .before .before .before .before .before .before .next-group .ensures) _ _ _ _ (c .before .before .before .before .before .before .before .judge-group .ensures) _ (c .before .before .plus .ensures) _ (c .before .ends .ensures) (c .if1 .taken)
+returns c =
+    let at-judge-group = c .before .before .before .before .before .before .before in
+    let at-next-group = at-judge-group .before .before .before in
+    let at-loop-test = at-next-group .before in
+    let at-loop = at-loop-test .before in
+    let at-pre = at-loop .before .before .before .before .before .before .before in
+    going-stop _ _ _ _ _ _ _ _ _ _ _ _ _ _ (at-loop .loop .inv) (at-pre .pre .0) (at-loop-test .loop-test .taken) _ (at-next-group .next-group .ensures) _ _ _ _ (at-judge-group .judge-group .ensures)
+    _ (c .before .before .plus .ensures) _ (c .before .ends .ensures) (c .if1 .taken)
 
 loop-less : tie.Need-loop-less Inv-loop μ-loop
-loop-less c = omega (arith, c .before .before .before .before .before .before .before .before .before .before .before .loop-test .taken, c .before .before .before .before .before .before .before .before .before .before .next-group .ensures .passed .later, c .before .before .before .before .before .before .before .before .before .before .next-group .ensures .group .within)
+loop-less c =
+    let at-next-group = c .before .before .before .before .before .before .before .before .before .before in
+    let at-loop-test = at-next-group .before in
+    omega (arith, at-loop-test .loop-test .taken, at-next-group .next-group .ensures .passed .later, at-next-group .next-group .ensures .group .within)
 
 loop-again : tie.Need-loop-again Inv-loop μ-loop
-loop-again c = going-on _ _ _ _ _ _ _ _ _ _ _ _ _ _ (c .before .before .before .before .before .before .before .before .before .before .before .before .loop .inv) (c .before .before .before .before .before .before .before .before .before .before .before .before .before .before .before .before .before .before .before .pre .0) (c .before .before .before .before .before .before .before .before .before .before .before .loop-test .taken) _ (c .before .before .before .before .before .before .before .before .before .before .next-group .ensures) _ _ _ _ (c .before .before .before .before .before .before .before .judge-group .ensures) _ (c .before .before .plus .ensures) _ (c .before .ends .ensures) (c .if1 .left)
+loop-again c =
+    let at-judge-group = c .before .before .before .before .before .before .before in
+    let at-next-group = at-judge-group .before .before .before in
+    let at-loop-test = at-next-group .before in
+    let at-loop = at-loop-test .before in
+    let at-pre = at-loop .before .before .before .before .before .before .before in
+    going-on _ _ _ _ _ _ _ _ _ _ _ _ _ _ (at-loop .loop .inv) (at-pre .pre .0) (at-loop-test .loop-test .taken) _ (at-next-group .next-group .ensures) _ _ _ _ (at-judge-group .judge-group .ensures) _
+    (c .before .before .plus .ensures) _ (c .before .ends .ensures) (c .if1 .left)
 
 same-length-3 : tie.Need-same-length-3 Inv-loop μ-loop
 same-length-3 c = ap length (c .before .loop .inv .back)

@@ -10,7 +10,9 @@ next-group-requires : tie.Need-next-group-requires
 next-group-requires c κs = search needs
 
 take-hints-requires : tie.Need-take-hints-requires
-take-hints-requires c κs = (c .before .before .before .before .before .before .before .before .before .pre .0 .ready, (c .before .before .before .before .before .before .before .before .before .pre .1 .0, group-span _ _ _ (c .before .before .next-group .ensures)))
+take-hints-requires c κs =
+    let at-pre = c .before .before .before .before .before .before .before .before .before in
+    (at-pre .pre .0 .ready, (at-pre .pre .1 .0, group-span _ _ _ (c .before .before .next-group .ensures)))
 
 count-requires : tie.Need-count-requires
 count-requires c κs = search needs
@@ -25,7 +27,23 @@ ended-requires : tie.Need-ended-requires
 ended-requires c κs = search needs
 
 after-hints-requires : tie.Need-after-hints-requires
-after-hints-requires c κs = (hints-fit _ _ _ _ _ _ _ (c .before .before .before .before .before .before .before .before .before .before .before .before .before .before .before .before .before .before .before .before .before .pre .0) (c .before .before .before .before .before .before .before .before .before .before .before .before .before .before .before .before .before .before .before .before .before .pre .1 .1) _ (c .before .before .before .before .before .before .before .before .before .before .before .before .before .before .next-group .ensures) _ _ _ _ _ _ _ (c .before .before .before .before .before .before .before .before .before .before .before .take-hints .ensures) (omega (arith, c .before .before .before .before .before .before .before .before .before .before .before .before .before .before .before .before .before .before .before .before .before .fits, c .before .before .before .before .before .before .before .before .before .before .before .before .before .before .before .before .before .before .before .before .before .good)) _ (c .before .before .before .before .before .before .count .ensures) _ (c .before .before .before .ended .ensures) (c .before .before .if1 .taken), (c .before .before .before .before .before .before .before .before .before .before .before .take-hints .ensures .laid .room, (c .before .before .before .before .before .before .before .before .before .before .before .before .before .before .next-group .ensures, hints-clausal _ _ _ _ _ _ _ (c .before .before .before .before .before .before .before .before .before .before .before .before .before .before .before .before .before .before .before .before .before .pre .0) (c .before .before .before .before .before .before .before .before .before .before .before .before .before .before .before .before .before .before .before .before .before .pre .1 .1) _ (c .before .before .before .before .before .before .before .before .before .before .before .before .before .before .next-group .ensures) _ _ _ _ _ _ _ (c .before .before .before .before .before .before .before .before .before .before .before .take-hints .ensures) (omega (arith, c .before .before .before .before .before .before .before .before .before .before .before .before .before .before .before .before .before .before .before .before .before .fits, c .before .before .before .before .before .before .before .before .before .before .before .before .before .before .before .before .before .before .before .before .before .good)) _ (c .before .before .before .before .before .before .count .ensures) _ (c .before .before .before .ended .ensures) (c .before .before .if1 .taken))))
+after-hints-requires c κs =
+    let at-ended = c .before .before .before in
+    let at-count = at-ended .before .before .before in
+    let at-take-hints = at-count .before .before .before .before .before in
+    let at-next-group = at-take-hints .before .before .before in
+    let at-pre = at-next-group .before .before .before .before .before .before .before in (
+      hints-fit _ _ _ _ _ _ _ (at-pre .pre .0) (at-pre .pre .1 .1) _ (at-next-group .next-group .ensures) _ _ _ _ _ _ _ (at-take-hints .take-hints .ensures) (omega (arith, at-pre .fits, at-pre .good)) _
+          (at-count .count .ensures) _ (at-ended .ended .ensures) (c .before .before .if1 .taken),
+      (
+        at-take-hints .take-hints .ensures .laid .room,
+        (
+          at-next-group .next-group .ensures,
+          hints-clausal _ _ _ _ _ _ _ (at-pre .pre .0) (at-pre .pre .1 .1) _ (at-next-group .next-group .ensures) _ _ _ _ _ _ _ (at-take-hints .take-hints .ensures)
+              (omega (arith, at-pre .fits, at-pre .good)) _ (at-count .count .ensures) _ (at-ended .ended .ensures) (c .before .before .if1 .taken),
+        ),
+      ),
+    )
 
 same-length : tie.Need-same-length
 same-length c = search needs
@@ -34,7 +52,18 @@ same-length-2 : tie.Need-same-length-2
 same-length-2 c = search needs
 
 returns : tie.Need-returns
-returns c = hints-ended _ _ _ _ _ _ _ (c .before .before .before .before .before .before .before .before .before .before .before .before .before .before .before .before .before .before .before .before .before .before .before .before .before .before .pre .0) (c .before .before .before .before .before .before .before .before .before .before .before .before .before .before .before .before .before .before .before .before .before .before .before .before .before .before .pre .1 .1) _ (c .before .before .before .before .before .before .before .before .before .before .before .before .before .before .before .before .before .before .before .next-group .ensures) _ _ _ _ _ _ _ (c .before .before .before .before .before .before .before .before .before .before .before .before .before .before .before .before .take-hints .ensures) (omega (arith, c .before .before .before .before .before .before .before .before .before .before .before .before .before .before .before .before .before .before .before .before .before .before .before .before .before .before .fits, c .before .before .before .before .before .before .before .before .before .before .before .before .before .before .before .before .before .before .before .before .before .before .before .before .before .before .good)) _ (c .before .before .before .before .before .before .before .before .before .before .before .count .ensures) _ (c .before .before .before .before .before .before .before .before .ended .ensures) (c .before .before .before .before .before .before .before .if1 .taken) _ _ _ (c .before .before .before .before .before .before .before .before .before .before .plus .ensures) (c .before .before .before .before .before .before .before .before .before .plus2 .ensures) _ _ _ _ (c .before .before .before .before .after-hints .ensures)
+returns c =
+    let at-after-hints = c .before .before .before .before in
+    let at-if = at-after-hints .before .before .before in
+    let at-ended = at-if .before in
+    let at-plus = at-ended .before in
+    let at-plus-2 = at-plus .before in
+    let at-count = at-plus-2 .before in
+    let at-take-hints = at-count .before .before .before .before .before in
+    let at-next-group = at-take-hints .before .before .before in
+    let at-pre = at-next-group .before .before .before .before .before .before .before in
+    hints-ended _ _ _ _ _ _ _ (at-pre .pre .0) (at-pre .pre .1 .1) _ (at-next-group .next-group .ensures) _ _ _ _ _ _ _ (at-take-hints .take-hints .ensures) (omega (arith, at-pre .fits, at-pre .good))
+    _ (at-count .count .ensures) _ (at-ended .ended .ensures) (at-if .if1 .taken) _ _ _ (at-plus-2 .plus .ensures) (at-plus .plus2 .ensures) _ _ _ _ (at-after-hints .after-hints .ensures)
 
 verdict-by-requires : tie.Need-verdict-by-requires
 verdict-by-requires c κs = search needs
@@ -46,7 +75,15 @@ same-length-4 : tie.Need-same-length-4
 same-length-4 c = search needs
 
 returns-2 : tie.Need-returns-2
-returns-2 c = hints-other _ _ _ _ _ _ _ (c .before .before .before .before .before .before .before .before .before .before .before .before .before .before .before .before .before .before .before .before .pre .0) (c .before .before .before .before .before .before .before .before .before .before .before .before .before .before .before .before .before .before .before .before .pre .1 .1) _ (c .before .before .before .before .before .before .before .before .before .before .before .before .before .next-group .ensures) _ _ _ _ _ _ _ (c .before .before .before .before .before .before .before .before .before .before .take-hints .ensures) (omega (arith, c .before .before .before .before .before .before .before .before .before .before .before .before .before .before .before .before .before .before .before .before .fits, c .before .before .before .before .before .before .before .before .before .before .before .before .before .before .before .before .before .before .before .before .good)) _ (c .before .before .before .before .before .count .ensures) _ (c .before .before .ended .ensures) (c .before .if1 .left) _ _ _ (c .before .before .before .before .plus .ensures) (c .before .before .before .plus2 .ensures) _ (c .verdict-by .ensures)
+returns-2 c =
+    let at-plus = c .before .before .before in
+    let at-plus-2 = at-plus .before in
+    let at-count = at-plus-2 .before in
+    let at-take-hints = at-count .before .before .before .before .before in
+    let at-next-group = at-take-hints .before .before .before in
+    let at-pre = at-next-group .before .before .before .before .before .before .before in
+    hints-other _ _ _ _ _ _ _ (at-pre .pre .0) (at-pre .pre .1 .1) _ (at-next-group .next-group .ensures) _ _ _ _ _ _ _ (at-take-hints .take-hints .ensures) (omega (arith, at-pre .fits, at-pre .good))
+    _ (at-count .count .ensures) _ (c .before .before .ended .ensures) (c .before .if1 .left) _ _ _ (at-plus-2 .plus .ensures) (at-plus .plus2 .ensures) _ (c .verdict-by .ensures)
 
 pub judge-hints-spec : {M : Type 1} → statement M
 judge-hints-spec =

@@ -54,10 +54,16 @@ counted-requires-2 : tie.Need-counted-requires-2 Inv-loop μ-loop
 counted-requires-2 c κs = search needs
 
 add-others : tie.Need-add-others Inv-loop μ-loop
-add-others c = omega (arith, c .before .before .counted .ensures .few, c .before .before .before .before .before .before .before .before .before .before .before .loop .inv .few, c .before .before .before .before .before .before .before .before .before .before .loop-test .taken)
+add-others c =
+    let at-loop-test = c .before .before .before .before .before .before .before .before .before .before in
+    let at-loop = at-loop-test .before in
+    omega (arith, c .before .before .counted .ensures .few, at-loop .loop .inv .few, at-loop-test .loop-test .taken)
 
 add-others-2 : tie.Need-add-others-2 Inv-loop μ-loop
-add-others-2 c = omega (arith, c .before .before .counted .ensures .few, c .counted2 .ensures .few, c .before .before .before .before .before .before .before .before .before .before .before .loop .inv .few, c .before .before .before .before .before .before .before .before .before .before .loop-test .taken)
+add-others-2 c =
+    let at-loop-test = c .before .before .before .before .before .before .before .before .before .before in
+    let at-loop = at-loop-test .before in
+    omega (arith, c .before .before .counted .ensures .few, c .counted2 .ensures .few, at-loop .loop .inv .few, at-loop-test .loop-test .taken)
 
 latest-requires-2 : tie.Need-latest-requires-2 Inv-loop μ-loop
 latest-requires-2 c κs = search needs
@@ -69,7 +75,16 @@ loop-less : tie.Need-loop-less Inv-loop μ-loop
 loop-less c = omega (arith, c .before .before .before .before .before .before .before .before .before .before .before .loop-test .taken)
 
 loop-again : tie.Need-loop-again Inv-loop μ-loop
-loop-again c = looking-two _ _ _ _ _ (c .before .before .before .before .before .before .before .before .before .before .before .before .loop .inv) (c .before .before .before .before .before .before .before .before .before .before .before .before .before .before .before .pre .1) (c .before .before .before .before .before .before .before .before .before .before .before .loop-test .taken) (c .before .before .before .before .before .before .before .before .before .before .before .before .before .before .before .pre .0) _ (c .before .before .before .before .before .before .before .before .before .cell .ensures) _ _ (c .before .before .before .counted .ensures) (c .before .before .latest .ensures) _ (c .before .before .before .before .before .before .before .behind .ensures) _ (c .before .before .before .before .before .cell2 .ensures) _ _ (c .before .counted2 .ensures) (c .latest2 .ensures)
+loop-again c =
+    let at-counted = c .before .before .before in
+    let at-cell = at-counted .before .before in
+    let at-behind = at-cell .before .before in
+    let at-cell-2 = at-behind .before .before in
+    let at-loop-test = at-cell-2 .before .before in
+    let at-loop = at-loop-test .before in
+    let at-pre = at-loop .before .before .before in
+    looking-two _ _ _ _ _ (at-loop .loop .inv) (at-pre .pre .1) (at-loop-test .loop-test .taken) (at-pre .pre .0) _ (at-cell-2 .cell .ensures) _ _ (at-counted .counted .ensures)
+    (c .before .before .latest .ensures) _ (at-behind .behind .ensures) _ (at-cell .cell2 .ensures) _ _ (c .before .counted2 .ensures) (c .latest2 .ensures)
 
 returns : tie.Need-returns Inv-loop μ-loop
 returns c = looking-none _ _ _ _ _ (c .before .before .loop .inv) (c .before .before .before .before .before .pre .1) (c .before .loop-test .left) (c .if1 .taken)
@@ -78,7 +93,11 @@ only-one-requires : tie.Need-only-one-requires Inv-loop μ-loop
 only-one-requires c κs = (c .before .before .before .before .before .before .pre .0, looking-below _ _ _ _ _ (c .before .before .before .loop .inv) (c .before .before .before .before .before .before .pre .1) (c .if2 .taken))
 
 returns-2 : tie.Need-returns-2 Inv-loop μ-loop
-returns-2 c = looking-one _ _ _ _ _ (c .before .before .before .before .loop .inv) (c .before .before .before .before .before .before .before .pre .1) (c .before .before .before .loop-test .left) (c .before .if2 .taken) _ (c .only-one .ensures)
+returns-2 c =
+    let at-loop-test = c .before .before .before in
+    let at-loop = at-loop-test .before in
+    let at-pre = at-loop .before .before .before in
+    looking-one _ _ _ _ _ (at-loop .loop .inv) (at-pre .pre .1) (at-loop-test .loop-test .left) (c .before .if2 .taken) _ (c .only-one .ensures)
 
 returns-3 : tie.Need-returns-3 Inv-loop μ-loop
 returns-3 c = looking-more _ _ _ _ _ (c .before .before .before .loop .inv) (c .before .before .before .before .before .before .pre .1) (c .before .before .loop-test .left) (c .before .if1 .left) (c .if2 .left)

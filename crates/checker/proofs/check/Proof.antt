@@ -37,7 +37,10 @@ same-length-6 : tie.Need-same-length-6
 same-length-6 c = search needs
 
 returns : tie.Need-returns
-returns c = promises _ _ _ _ _ _ _ _ (c .before .before .before .before .before .before .before .before .before .before .before .before .before .before .before .before .before .before .before .cells .ensures) _ _ (c .before .before .before .before .before .before .before .before .before .before .before .before .check-marked .ensures)
+returns c =
+    let at-check-marked = c .before .before .before .before .before .before .before .before .before .before .before .before in
+    let at-cells = at-check-marked .before .before .before .before .before .before .before in
+    promises _ _ _ _ _ _ _ _ (at-cells .cells .ensures) _ _ (at-check-marked .check-marked .ensures)
 
 pub check-spec : {M : Type 1} → statement M
 check-spec =

@@ -27,7 +27,13 @@ plus-requires : tie.Need-plus-requires
 plus-requires c κs = search needs
 
 check-stored-requires : tie.Need-check-stored-requires
-check-stored-requires c κs = marked-begun _ (c .before .before .before .before .before .before .before .before .before .before .before .before .before .before .before .before .before .before .before .before .before .before .before .before .before .before .before .before .before .before .args .proof .now) _ _ (c .before .before .before .before .before .before .before .before .before .before .before .before .before .before .before .before .before .before .before .before .before .before .before .before .before .before .before .before .before .before .args .hints .now) (c .before .before .before .before .before .before .before .before .before .before .before .before .before .before .before .before .before .before .before .before .before .before .before .before .before .before .before .before .before .before .args .marks .now) (c .before .before .before .before .before .before .before .before .before .before .before .before .before .before .before .before .before .before .before .before .before .before .before .before .before .before .before .before .before .before .args .tape .now) _ _ _ (c .before .before .before .before .before .before .before .before .before .before .before .before .before .before .before .read .ensures) (c .before .before .before .before .before .before .before .before .before .before .before .before .before .before .before .read .kept .1 .0) (c .before .before .before .before .before .before .before .before .before .before .before .before .before .before .before .read .kept .1 .1 .0) _ _ _ _ (c .before .before .before .before .before .before .before .before .before .r .given .1) _ (c .before .before .before .before .before .before .before .before .before .before .before .before .before .before .before .before .before .before .before .before .clear .ensures .0) (rw (c .before .before .before .before .before .before .before .before .before .before .before .before .before .before .before .before .before .before .before .before .clear .kept .0) (c .before .before .before .before .before .before .before .before .before .before .before .before .before .before .before .before .before .before .before .before .before .before .before .before .before .before .before .before .before .before .pre .0)) (rw (c .before .before .before .before .before .before .before .before .before .before .before .before .before .before .before .before .before .before .before .before .clear .kept .0) (c .before .before .before .before .before .before .before .before .before .before .before .before .before .before .before .before .before .before .before .before .before .before .before .before .before .before .before .before .before .before .pre .1))
+check-stored-requires c κs =
+    let at-r = c .before .before .before .before .before .before .before .before .before in
+    let at-read = at-r .before .before .before .before .before .before in
+    let at-clear = at-read .before .before .before .before .before in
+    let at-args = at-clear .before .before .before .before .before .before .before .before .before .before in
+    marked-begun _ (at-args .args .proof .now) _ _ (at-args .args .hints .now) (at-args .args .marks .now) (at-args .args .tape .now) _ _ _ (at-read .read .ensures) (at-read .read .kept .1 .0)
+    (at-read .read .kept .1 .1 .0) _ _ _ _ (at-r .r .given .1) _ (at-clear .clear .ensures .0) (rw (at-clear .clear .kept .0) (at-args .pre .0)) (rw (at-clear .clear .kept .0) (at-args .pre .1))
 
 enum-known-r-2 : tie.Need-enum-known-r-2
 enum-known-r-2 c = search needs
@@ -60,13 +66,27 @@ same-length-4 : tie.Need-same-length-4
 same-length-4 c = search needs
 
 same-length-5 : tie.Need-same-length-5
-same-length-5 c = c .before .before .before .before .before .before .before .before .before .before .before .before .check-stored .kept .1 .1 .1 .1 .1 .0 ∙ c .before .before .before .before .before .before .before .before .before .before .before .before .before .before .before .before .before .before .before .before .before .before .before .before .before .before .before .before .before .before .before .before .before .clear .kept .0
+same-length-5 c =
+    let at-check-stored = c .before .before .before .before .before .before .before .before .before .before .before .before in
+    let back = at-check-stored .before .before .before .before .before .before .before .before .before .before .before .before .before .before .before .before .before .before .before .before in
+    let at-clear = back .before in
+    at-check-stored .check-stored .kept .1 .1 .1 .1 .1 .0 ∙ at-clear .clear .kept .0
 
 same-length-6 : tie.Need-same-length-6
 same-length-6 c = search needs
 
 returns : tie.Need-returns
-returns c = marked-stored _ _ _ _ _ _ _ _ _ _ (c .before .before .before .before .before .before .before .before .before .before .before .before .before .before .before .before .before .before .before .before .before .before .before .before .before .before .before .before .read .ensures) (c .before .before .before .before .before .before .before .before .before .before .before .before .before .before .before .before .before .before .before .before .before .before .before .before .before .before .before .before .read .kept .1 .0) (c .before .before .before .before .before .before .before .before .before .before .before .before .before .before .before .before .before .before .before .before .before .before .before .before .before .before .before .before .read .kept .1 .1 .0) _ _ _ _ (c .before .before .before .before .before .before .before .before .before .before .before .before .before .before .before .before .before .before .before .before .before .before .r .given .1) _ (c .before .before .before .before .before .before .before .before .before .before .before .before .before .before .before .before .before .before .before .before .before .before .before .before .before .before .before .before .before .before .before .before .before .clear .kept .0) _ (c .before .before .before .before .before .before .before .before .before .before .before .before .check-stored .ensures .0) _ _ _ _ (omega (arith, c .before .before .before .before .before .before .before .before .before .before .before .before .before .before .before .before .before .before .before .before .before .before .before .before .before .before .before .before .before .before .before .before .before .clear .ensures .1, c .before .before .before .before .before .before .before .before .before .before .before .before .before .before .before .before .before .before .before .before .before .before .before .before .before .before .before .before .before .before .before .before .before .before .before .before .before .before .before .before .before .before .before .pre .1)) (c .before .before .before .before .before .before .before .before .before .before .before .before .before .before .before .before .before .before .before .before .reading .ensures) (c .before .before .before .before .before .before .before .before .before .before .before .before .before .before .before .before .before .before .before .plus .ensures) (c .before .before .before .before .before .before .before .before .before .before .before .before .check-stored .ensures .1 .0) (c .before .before .before .before .before .before .before .before .before .before .before .before .check-stored .ensures .1 .1)
+returns c =
+    let at-check-stored = c .before .before .before .before .before .before .before .before .before .before .before .before in
+    let at-plus = at-check-stored .before .before .before .before .before .before .before in
+    let at-reading = at-plus .before in
+    let at-r = at-reading .before .before in
+    let at-read = at-r .before .before .before .before .before .before in
+    let at-clear = at-read .before .before .before .before .before in
+    let at-pre = at-clear .before .before .before .before .before .before .before .before .before .before in
+    marked-stored _ _ _ _ _ _ _ _ _ _ (at-read .read .ensures) (at-read .read .kept .1 .0) (at-read .read .kept .1 .1 .0) _ _ _ _ (at-r .r .given .1) _ (at-clear .clear .kept .0) _
+    (at-check-stored .check-stored .ensures .0) _ _ _ _ (omega (arith, at-clear .clear .ensures .1, at-pre .pre .1)) (at-reading .reading .ensures) (at-plus .plus .ensures)
+    (at-check-stored .check-stored .ensures .1 .0) (at-check-stored .check-stored .ensures .1 .1)
 
 same-length-7 : tie.Need-same-length-7
 same-length-7 c = search needs
@@ -78,7 +98,13 @@ same-length-9 : tie.Need-same-length-9
 same-length-9 c = search needs
 
 returns-2 : tie.Need-returns-2
-returns-2 c = marked-unread _ _ _ _ _ _ _ _ _ _ (c .before .before .before .before .before .before .before .before .before .read .ensures) (c .before .before .before .before .before .before .before .before .before .read .kept .1 .0) (c .before .before .before .before .before .before .before .before .before .read .kept .1 .1 .0) _ _ _ (c .before .before .before .r2 .given .1) _ _ _ (omega (arith, c .before .before .before .before .before .before .before .before .before .before .before .before .before .before .clear .ensures .1, c .before .before .before .before .before .before .before .before .before .before .before .before .before .before .before .before .before .before .before .before .before .before .before .before .pre .1)) (c .before .reading2 .ensures) (c .plus2 .ensures)
+returns-2 c =
+    let at-r = c .before .before .before in
+    let at-read = at-r .before .before .before .before .before .before in
+    let at-clear = at-read .before .before .before .before .before in
+    let at-pre = at-clear .before .before .before .before .before .before .before .before .before .before in
+    marked-unread _ _ _ _ _ _ _ _ _ _ (at-read .read .ensures) (at-read .read .kept .1 .0) (at-read .read .kept .1 .1 .0) _ _ _ (at-r .r2 .given .1) _ _ _
+    (omega (arith, at-clear .clear .ensures .1, at-pre .pre .1)) (c .before .reading2 .ensures) (c .plus2 .ensures)
 
 same-length-10 : tie.Need-same-length-10
 same-length-10 c = search needs
@@ -90,7 +116,13 @@ same-length-12 : tie.Need-same-length-12
 same-length-12 c = search needs
 
 returns-3 : tie.Need-returns-3
-returns-3 c = marked-short _ _ _ _ _ _ _ _ _ _ (c .before .before .before .before .before .before .before .before .before .read .ensures) (c .before .before .before .before .before .before .before .before .before .read .kept .1 .0) (c .before .before .before .before .before .before .before .before .before .read .kept .1 .1 .0) _ _ _ (c .before .before .before .r3 .given .1) _ _ _ (omega (arith, c .before .before .before .before .before .before .before .before .before .before .before .before .before .before .clear .ensures .1, c .before .before .before .before .before .before .before .before .before .before .before .before .before .before .before .before .before .before .before .before .before .before .before .before .pre .1)) (c .before .reading3 .ensures) (c .plus3 .ensures)
+returns-3 c =
+    let at-r = c .before .before .before in
+    let at-read = at-r .before .before .before .before .before .before in
+    let at-clear = at-read .before .before .before .before .before in
+    let at-pre = at-clear .before .before .before .before .before .before .before .before .before .before in
+    marked-short _ _ _ _ _ _ _ _ _ _ (at-read .read .ensures) (at-read .read .kept .1 .0) (at-read .read .kept .1 .1 .0) _ _ _ (at-r .r3 .given .1) _ _ _
+    (omega (arith, at-clear .clear .ensures .1, at-pre .pre .1)) (c .before .reading3 .ensures) (c .plus3 .ensures)
 
 pub check-marked-spec : {M : Type 1} → statement M
 check-marked-spec =

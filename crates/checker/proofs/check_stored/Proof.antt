@@ -24,7 +24,12 @@ count-requires : tie.Need-count-requires
 count-requires c κs = search needs
 
 run-requires : tie.Need-run-requires
-run-requires c κs = begun-keeps _ _ _ _ _ _ (c .before .before .before .before .before .before .before .before .before .before .before .before .before .before .before .before .before .before .before .before .before .pre) (has-all _ _ _ _ (c .before .before .before .before .before .before .before .before .before .before .before .before .before .has-marks .ensures) (c .before .before .before .before .before .before .before .before .before .before .before .before .if1 .left)) _ (between-same _ _ _ (c .before .before .before .before .before .before .count .ensures))
+run-requires c κs =
+    let at-count = c .before .before .before .before .before .before in
+    let at-if = at-count .before .before .before .before .before .before in
+    let at-has-marks = at-if .before in
+    let at-pre = at-has-marks .before .before .before .before .before .before .before .before in
+    begun-keeps _ _ _ _ _ _ (at-pre .pre) (has-all _ _ _ _ (at-has-marks .has-marks .ensures) (at-if .if1 .left)) _ (between-same _ _ _ (at-count .count .ensures))
 
 answer-by-requires : tie.Need-answer-by-requires
 answer-by-requires c κs = search needs
@@ -54,7 +59,12 @@ same-length-6 : tie.Need-same-length-6
 same-length-6 c = search needs
 
 returns-2 : tie.Need-returns-2
-returns-2 c = stored-ran _ _ _ _ _ _ _ _ _ (between-same _ _ _ (c .before .before .before .before .before .before .before .before .before .before .before .before .before .before .before .before .before .before .before .before .before .before .count .ensures)) _ _ (c .before .before .before .before .before .before .before .before .before .before .before .before .before .before .before .run .ensures) _ (c .before .before .answer-by .ensures) _ _ _ _ (c .before .before .before .before .before .before .before .before .before .before .before .before .before .before .before .before .before .before .before .before .before .before .before .before .before .note-all .ensures .0) (c .before .plus .ensures) (c .plus2 .ensures)
+returns-2 c =
+    let at-run = c .before .before .before .before .before .before .before .before .before .before .before .before .before .before .before in
+    let at-count = at-run .before .before .before .before .before .before .before in
+    let at-note-all = at-count .before .before .before in
+    stored-ran _ _ _ _ _ _ _ _ _ (between-same _ _ _ (at-count .count .ensures)) _ _ (at-run .run .ensures) _ (c .before .before .answer-by .ensures) _ _ _ _ (at-note-all .note-all .ensures .0)
+    (c .before .plus .ensures) (c .plus2 .ensures)
 
 pub check-stored-spec : {M : Type 1} → statement M
 check-stored-spec =

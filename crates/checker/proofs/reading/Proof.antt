@@ -37,7 +37,16 @@ plus-requires-7 : tie.Need-plus-requires-7
 plus-requires-7 c κs = search needs
 
 returns : tie.Need-returns
-returns c = charged-by _ _ _ _ _ _ _ _ _ _ _ _ _ (c .before .before .before .before .before .before .before .before .before .count .ensures) (c .before .before .before .before .before .before .before .before .count2 .ensures) (c .before .before .before .before .before .before .before .count3 .ensures) (c .before .before .before .before .before .before .plus .ensures) (c .before .before .before .before .before .plus2 .ensures) (c .before .before .before .before .plus3 .ensures) (c .before .before .before .plus4 .ensures) (c .before .before .plus5 .ensures) (c .before .plus6 .ensures) (c .plus7 .ensures)
+returns c =
+    let at-plus = c .before .before .before in
+    let at-plus-2 = at-plus .before in
+    let at-plus-3 = at-plus-2 .before in
+    let at-plus-4 = at-plus-3 .before in
+    let at-count = at-plus-4 .before in
+    let at-count-2 = at-count .before in
+    let at-count-3 = at-count-2 .before in
+    charged-by _ _ _ _ _ _ _ _ _ _ _ _ _ (at-count-3 .count .ensures) (at-count-2 .count2 .ensures) (at-count .count3 .ensures) (at-plus-4 .plus .ensures) (at-plus-3 .plus2 .ensures)
+    (at-plus-2 .plus3 .ensures) (at-plus .plus4 .ensures) (c .before .before .plus5 .ensures) (c .before .plus6 .ensures) (c .plus7 .ensures)
 
 pub reading-spec : {M : Type 1} → statement M
 reading-spec =

@@ -35,10 +35,17 @@ loop-less : tie.Need-loop-less Inv-loop μ-loop
 loop-less c = omega (arith, c .before .before .before .before .before .before .before .loop-test .taken)
 
 loop-again : tie.Need-loop-again Inv-loop μ-loop
-loop-again c = compacting-on _ _ _ _ _ (c .before .before .before .before .before .before .before .before .before .before .before .pre .store) _ _ _ _ _ _ _ (c .before .before .before .before .before .before .before .before .loop .inv) (omega (arith, c .before .before .before .before .before .before .before .loop-test .taken)) _ _ _ _ _ (c .before .before .before .before .keep .ensures)
+loop-again c =
+    let at-keep = c .before .before .before .before in
+    let at-loop-test = at-keep .before .before .before in
+    let at-loop = at-loop-test .before in
+    let at-pre = at-loop .before .before .before in
+    compacting-on _ _ _ _ _ (at-pre .pre .store) _ _ _ _ _ _ _ (at-loop .loop .inv) (omega (arith, at-loop-test .loop-test .taken)) _ _ _ _ _ (at-keep .keep .ensures)
 
 add-turns : tie.Need-add-turns Inv-loop μ-loop
-add-turns c = record { fits = compacting-small _ _ _ _ _ (c .before .before .before .before .before .pre .store) _ _ _ _ _ _ _ (c .before .before .loop .inv) (c .before .before .before .before .before .good .0 .1) (c .before .before .before .before .before .good .1 .0 .1) }
+add-turns c =
+    let at-pre = c .before .before .before .before .before in
+    record { fits = compacting-small _ _ _ _ _ (at-pre .pre .store) _ _ _ _ _ _ _ (c .before .before .loop .inv) (at-pre .good .0 .1) (at-pre .good .1 .0 .1) }
 
 same-length : tie.Need-same-length Inv-loop μ-loop
 same-length c = c .before .before .loop .inv .heads-long

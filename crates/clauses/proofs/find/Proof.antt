@@ -48,7 +48,12 @@ loop-less : tie.Need-loop-less Inv-loop μ-loop
 loop-less c = search needs
 
 loop-again : tie.Need-loop-again Inv-loop μ-loop
-loop-again c = (rw (c .reached .ensures, c .before .head-at .ensures) (bracket-on _ _ _ _ _ (c .before .before .before .before .before .before .pre .rising) (c .before .before .before .loop .inv .0) (c .before .before .loop-test .taken)), halving-on _ _ _ _ (c .before .before .before .loop .inv .1) (c .before .before .loop-test .taken) (omega arith))
+loop-again c =
+    let at-loop = c .before .before .before in
+    let at-pre = at-loop .before .before .before in (
+      rw (c .reached .ensures, c .before .head-at .ensures) (bracket-on _ _ _ _ _ (at-pre .pre .rising) (at-loop .loop .inv .0) (c .before .before .loop-test .taken)),
+      halving-on _ _ _ _ (at-loop .loop .inv .1) (c .before .before .loop-test .taken) (omega arith),
+    )
 
 head-at-requires-2 : tie.Need-head-at-requires-2 Inv-loop μ-loop
 head-at-requires-2 c κs = search needs
@@ -60,7 +65,11 @@ returns-2 : tie.Need-returns-2 Inv-loop μ-loop
 returns-2 c = ((omega arith, omega (arith, c .if2 .taken, c .before .head-at2 .ensures)), halving-end _ _ _ (c .before .before .before .loop .inv .1) (c .before .before .before .loop .inv .0 .some) (c .before .before .loop-test .left))
 
 returns-3 : tie.Need-returns-3 Inv-loop μ-loop
-returns-3 c = (bracket-none _ _ _ _ _ (c .before .before .before .loop .inv .0) (c .before .before .loop-test .left) (λ e. c .if2 .left (omega (arith, c .before .head-at2 .ensures))), halving-end _ _ _ (c .before .before .before .loop .inv .1) (c .before .before .before .loop .inv .0 .some) (c .before .before .loop-test .left))
+returns-3 c =
+    let at-loop = c .before .before .before in (
+      bracket-none _ _ _ _ _ (at-loop .loop .inv .0) (c .before .before .loop-test .left) (λ e. c .if2 .left (omega (arith, c .before .head-at2 .ensures))),
+      halving-end _ _ _ (at-loop .loop .inv .1) (at-loop .loop .inv .0 .some) (c .before .before .loop-test .left),
+    )
 
 pub find-spec : {M : Type 1} → statement M
 find-spec =

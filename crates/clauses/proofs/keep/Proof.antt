@@ -54,7 +54,14 @@ same-length-2 : tie.Need-same-length-2
 same-length-2 c = search needs
 
 returns-2 : tie.Need-returns-2
-returns-2 c = inl (kept-by _ _ _ _ _ _ _ _ _ _ _ (omega (arith, c .before .before .before .before .before .before .before .before .before .before .before .before .before .before .before .if1 .left)) (c .before .before .before .before .before .before .before .before .before .before .before .before .before .start-at .ensures) (c .before .before .before .before .before .before .before .before .before .before .before .start-at2 .ensures) (c .before .before .before .before .before .before .before .before .before .shift .ensures) (c .before .before .before .before .write-head .ensures))
+returns-2 c =
+    let at-write-head = c .before .before .before .before in
+    let at-shift = at-write-head .before .before .before .before .before in
+    let at-start-at = at-shift .before .before in
+    let at-start-at-2 = at-start-at .before .before in
+    let at-if = at-start-at-2 .before .before in
+    inl
+    (kept-by _ _ _ _ _ _ _ _ _ _ _ (omega (arith, at-if .if1 .left)) (at-start-at-2 .start-at .ensures) (at-start-at .start-at2 .ensures) (at-shift .shift .ensures) (at-write-head .write-head .ensures))
 
 pub keep-spec : {M : Type 1} → statement M
 keep-spec =

@@ -28,7 +28,11 @@ half-requires : tie.Need-half-requires Inv-loop μ-loop
 half-requires c κs = search needs
 
 delete-one-requires : tie.Need-delete-one-requires Inv-loop μ-loop
-delete-one-requires c κs = taking-one _ _ _ _ _ _ _ _ (c .before .before .before .before .before .before .before .before .pre .1) (omega (arith, c .before .before .before .before .before .before .before .before .fits .many)) (c .before .before .before .before .loop .inv) (c .before .before .before .loop-test .taken) _ (c .half .ensures .0) (c .half .ensures .1)
+delete-one-requires c κs =
+    let at-loop-test = c .before .before .before in
+    let at-loop = at-loop-test .before in
+    let at-pre = at-loop .before .before .before .before in
+    taking-one _ _ _ _ _ _ _ _ (at-pre .pre .1) (omega (arith, at-pre .fits .many)) (at-loop .loop .inv) (at-loop-test .loop-test .taken) _ (c .half .ensures .0) (c .half .ensures .1)
 
 enum-known-r : tie.Need-enum-known-r Inv-loop μ-loop
 enum-known-r c = search needs
@@ -40,7 +44,16 @@ same-length : tie.Need-same-length Inv-loop μ-loop
 same-length c = one-long _ _ _ _ _ _ _ (c .before .before .before .before .before .delete-one .ensures) ∙ c .before .before .before .before .before .before .before .before .before .before .loop .inv .counted .long
 
 returns : tie.Need-returns Inv-loop μ-loop
-returns c = record { case = taking-missing _ _ _ _ _ _ _ _ (c .before .before .before .before .before .before .before .before .before .before .before .before .before .before .pre .1) (omega (arith, c .before .before .before .before .before .before .before .before .before .before .before .before .before .before .fits .many)) (c .before .before .before .before .before .before .before .before .before .before .loop .inv) (c .before .before .before .before .before .before .before .before .before .loop-test .taken) _ (c .before .before .before .before .before .before .half .ensures .0) _ _ (c .before .before .before .before .before .delete-one .ensures) _ _ _ (c .before .r2 .given .1) }
+returns c =
+    let at-delete-one = c .before .before .before .before .before in
+    let at-half = at-delete-one .before in
+    let at-loop-test = at-half .before .before .before in
+    let at-loop = at-loop-test .before in
+    let at-pre = at-loop .before .before .before .before in
+    record {
+      case = taking-missing _ _ _ _ _ _ _ _ (at-pre .pre .1) (omega (arith, at-pre .fits .many)) (at-loop .loop .inv) (at-loop-test .loop-test .taken) _ (at-half .half .ensures .0) _ _
+          (at-delete-one .delete-one .ensures) _ _ _ (c .before .r2 .given .1);
+    }
 
 add-i : tie.Need-add-i Inv-loop μ-loop
 add-i c = search needs
@@ -49,7 +62,14 @@ loop-less : tie.Need-loop-less Inv-loop μ-loop
 loop-less c = search needs
 
 loop-again : tie.Need-loop-again Inv-loop μ-loop
-loop-again c = taking-on _ _ _ _ _ _ _ _ (c .before .before .before .before .before .before .before .before .before .before .before .before .before .before .pre .1) (omega (arith, c .before .before .before .before .before .before .before .before .before .before .before .before .before .before .fits .many)) (c .before .before .before .before .before .before .before .before .before .before .loop .inv) (c .before .before .before .before .before .before .before .before .before .loop-test .taken) _ (c .before .before .before .before .before .before .half .ensures .0) _ _ (c .before .before .before .before .before .delete-one .ensures) _ _ (c .before .r .given .1)
+loop-again c =
+    let at-delete-one = c .before .before .before .before .before in
+    let at-half = at-delete-one .before in
+    let at-loop-test = at-half .before .before .before in
+    let at-loop = at-loop-test .before in
+    let at-pre = at-loop .before .before .before .before in
+    taking-on _ _ _ _ _ _ _ _ (at-pre .pre .1) (omega (arith, at-pre .fits .many)) (at-loop .loop .inv) (at-loop-test .loop-test .taken) _ (at-half .half .ensures .0) _ _
+    (at-delete-one .delete-one .ensures) _ _ (c .before .r .given .1)
 
 same-length-2 : tie.Need-same-length-2 Inv-loop μ-loop
 same-length-2 c = c .before .loop .inv .counted .long

@@ -27,8 +27,13 @@ enum-known-a c = search needs
 
 read-rest-requires : tie.Need-read-rest-requires
 read-rest-requires c κs =
-    let limits = read-limits (c .before .before .before .before .before .before .before .before .before .before .before .before .args .formula .now) _ _ (c .before .before .before .before .before .before .before .before .after-comments .ensures) (c .before .before .before .before .before .before .before .first .ensures) _ (c .before .before .before .before .before .announced .ensures) _ _ (c .before .before .before .a .given .1) in
-    (c .before .before .before .before .before .before .before .first .ensures .within, (limits .variables, limits .clauses))
+    let at-a = c .before .before .before in
+    let at-announced = at-a .before .before in
+    let at-first = at-announced .before .before in
+    let at-after-comments = at-first .before in
+    let at-args = at-after-comments .before .before .before .before in
+    let limits = read-limits (at-args .args .formula .now) _ _ (at-after-comments .after-comments .ensures) (at-first .first .ensures) _ (at-announced .announced .ensures) _ _ (at-a .a .given .1) in
+    (at-first .first .ensures .within, (limits .variables, limits .clauses))
 
 enum-told : tie.Need-enum-told
 enum-told c = search needs
@@ -40,10 +45,22 @@ same-length-2 : tie.Need-same-length-2
 same-length-2 c = search needs
 
 returns : tie.Need-returns
-returns c = read-rest (c .before .before .before .before .before .before .before .before .before .before .before .before .before .before .before .before .before .args .formula .now) _ _ (c .before .before .before .before .before .before .before .before .before .before .before .before .before .after-comments .ensures) (c .before .before .before .before .before .before .before .before .before .before .before .before .first .ensures) _ (c .before .before .before .before .before .before .before .before .before .before .announced .ensures) _ _ (c .before .before .before .before .before .before .before .before .a .given .1) _ _ _ _ _ (c .before .before .before .before .read-rest .ensures)
+returns c =
+    let at-read-rest = c .before .before .before .before in
+    let at-a = at-read-rest .before .before .before .before in
+    let at-announced = at-a .before .before in
+    let at-first = at-announced .before .before in
+    let at-after-comments = at-first .before in
+    let at-args = at-after-comments .before .before .before .before in
+    read-rest (at-args .args .formula .now) _ _ (at-after-comments .after-comments .ensures) (at-first .first .ensures) _ (at-announced .announced .ensures) _ _ (at-a .a .given .1) _ _ _ _ _
+    (at-read-rest .read-rest .ensures)
 
 returns-2 : tie.Need-returns-2
-returns-2 c = read-unreadable (c .before .before .before .before .before .before .before .before .before .args .formula .now) _ _ (c .before .before .before .before .before .after-comments .ensures) (c .before .before .before .before .first .ensures) _ (c .before .before .announced .ensures) _ _ _ _ (c .enum-told .given .1)
+returns-2 c =
+    let at-first = c .before .before .before .before in
+    let at-after-comments = at-first .before in
+    let at-args = at-after-comments .before .before .before .before in
+    read-unreadable (at-args .args .formula .now) _ _ (at-after-comments .after-comments .ensures) (at-first .first .ensures) _ (c .before .before .announced .ensures) _ _ _ _ (c .enum-told .given .1)
 
 pub read-spec : {M : Type 1} → statement M
 read-spec =

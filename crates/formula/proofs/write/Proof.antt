@@ -11,7 +11,11 @@ enum-known-r : tie.Need-enum-known-r
 enum-known-r c = search needs
 
 write-stored-requires : tie.Need-write-stored-requires
-write-stored-requires c κs = write-formed (c .before .before .before .before .before .before .before .before .before .before .before .before .before .before .before .before .before .args .formula .now) _ _ _ _ _ (c .before .before .before .before .before .before .before .before .before .before .read .ensures) _ _ _ _ (c .before .before .before .before .r .given .1)
+write-stored-requires c κs =
+    let at-r = c .before .before .before .before in
+    let at-read = at-r .before .before .before .before .before .before in
+    let at-args = at-read .before .before .before .before .before .before .before in
+    write-formed (at-args .args .formula .now) _ _ _ _ _ (at-read .read .ensures) _ _ _ _ (at-r .r .given .1)
 
 enum-known-r-2 : tie.Need-enum-known-r-2
 enum-known-r-2 c = search needs
@@ -29,7 +33,11 @@ same-length-3 : tie.Need-same-length-3
 same-length-3 c = search needs
 
 returns : tie.Need-returns
-returns c = write-stored (c .before .before .before .before .before .before .before .before .before .before .before .before .before .before .before .before .before .before .before .before .args .formula .now) _ _ _ _ _ (c .before .before .before .before .before .before .before .before .before .before .before .before .before .read .ensures) _ _ _ _ (c .before .before .before .before .before .before .before .r .given .1) _ _ _ (c .before .before .write-stored .ensures)
+returns c =
+    let at-r = c .before .before .before .before .before .before .before in
+    let at-read = at-r .before .before .before .before .before .before in
+    let at-args = at-read .before .before .before .before .before .before .before in
+    write-stored (at-args .args .formula .now) _ _ _ _ _ (at-read .read .ensures) _ _ _ _ (at-r .r .given .1) _ _ _ (c .before .before .write-stored .ensures)
 
 same-length-4 : tie.Need-same-length-4
 same-length-4 c = search needs
@@ -38,7 +46,10 @@ same-length-5 : tie.Need-same-length-5
 same-length-5 c = search needs
 
 returns-2 : tie.Need-returns-2
-returns-2 c = write-unreadable (c .before .before .before .before .before .before .before .before .before .before .before .before .before .before .args .formula .now) _ _ _ _ _ (c .before .before .before .before .before .before .before .read .ensures) _ _ _ _ (c .before .r2 .given .1)
+returns-2 c =
+    let at-read = c .before .before .before .before .before .before .before in
+    let at-args = at-read .before .before .before .before .before .before .before in
+    write-unreadable (at-args .args .formula .now) _ _ _ _ _ (at-read .read .ensures) _ _ _ _ (c .before .r2 .given .1)
 
 same-length-6 : tie.Need-same-length-6
 same-length-6 c = search needs
@@ -47,7 +58,10 @@ same-length-7 : tie.Need-same-length-7
 same-length-7 c = search needs
 
 returns-3 : tie.Need-returns-3
-returns-3 c = write-too-short (c .before .before .before .before .before .before .before .before .before .before .before .before .before .before .args .formula .now) _ _ _ _ _ (c .before .before .before .before .before .before .before .read .ensures) _ _ _ _ (c .before .r3 .given .1)
+returns-3 c =
+    let at-read = c .before .before .before .before .before .before .before in
+    let at-args = at-read .before .before .before .before .before .before .before in
+    write-too-short (at-args .args .formula .now) _ _ _ _ _ (at-read .read .ensures) _ _ _ _ (c .before .r3 .given .1)
 
 pub write-spec : {M : Type 1} → statement M
 write-spec =

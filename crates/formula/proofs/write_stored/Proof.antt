@@ -28,8 +28,13 @@ same-length c = search needs
 
 returns : tie.Need-returns
 returns c =
-    let a = c .before .before .before .before .before .before .before .before .before .before .before .args in
-    stored-whole _ _ _ _ _ _ _ _ (whole-says {need = lengthOf (a .heads .now) (a .lits .now) (a .n) (a .vars)} {room = length (a .out .now)} (c .before .before .before .before .before .before .before .written-length .ensures) (c .before .before .before .before .before .f .given .1)) (c .before .before .write-formula .ensures)
+    let at-f = c .before .before .before .before .before in
+    let at-written-length = at-f .before .before in
+    let at-args = at-written-length .before .before .before .before in
+    let a = at-args .args in
+    stored-whole _ _ _ _ _ _ _ _
+    (whole-says {need = lengthOf (a .heads .now) (a .lits .now) (a .n) (a .vars)} {room = length (a .out .now)} (at-written-length .written-length .ensures) (at-f .f .given .1))
+    (c .before .before .write-formula .ensures)
 
 returns-2 : tie.Need-returns-2
 returns-2 c =

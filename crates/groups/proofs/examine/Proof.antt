@@ -43,7 +43,14 @@ count-requires : tie.Need-count-requires
 count-requires c κs = search needs
 
 returns-2 : tie.Need-returns-2
-returns-2 c = examined-live _ _ _ _ (c .before .before .before .before .before .before .before .before .before .pre) (omega (arith, c .before .before .before .before .before .if1 .left, c .before .before .before .before .before .before .head-at .ensures)) _ _ (c .before .before .before .before .start-at .ensures) (c .before .before .before .start-at2 .ensures) _ (c .before .contains .ensures) _ (c .count .ensures)
+returns-2 c =
+    let at-start-at = c .before .before .before in
+    let at-start-at-2 = at-start-at .before in
+    let at-if = at-start-at-2 .before in
+    let at-head-at = at-if .before in
+    let at-pre = at-head-at .before .before .before in
+    examined-live _ _ _ _ (at-pre .pre) (omega (arith, at-if .if1 .left, at-head-at .head-at .ensures)) _ _ (at-start-at-2 .start-at .ensures) (at-start-at .start-at2 .ensures) _
+    (c .before .contains .ensures) _ (c .count .ensures)
 
 pub examine-spec : {M : Type 1} → statement M
 examine-spec =

@@ -17,7 +17,9 @@ loop-holds : tie.Need-loop-holds Inv-loop μ-loop
 loop-holds c = matching-start _ _ _ _ _ _ (c .before .before .before .pre .1)
 
 pass-requires : tie.Need-pass-requires Inv-loop μ-loop
-pass-requires c κs = (stored-placed _ _ _ (c .before .before .before .before .before .pre .0) _ (c .loop-test .taken), (c .before .loop .inv .group, matching-room _ _ _ _ _ _ _ _ _ (c .before .loop .inv) (c .loop-test .taken) (c .before .before .before .before .before .pre .0) (omega arith)))
+pass-requires c κs =
+    let at-pre = c .before .before .before .before .before in
+    (stored-placed _ _ _ (at-pre .pre .0) _ (c .loop-test .taken), (c .before .loop .inv .group, matching-room _ _ _ _ _ _ _ _ _ (c .before .loop .inv) (c .loop-test .taken) (at-pre .pre .0) (omega arith)))
 
 enum-known-r : tie.Need-enum-known-r Inv-loop μ-loop
 enum-known-r c = search needs
@@ -26,7 +28,11 @@ enum-known-r-2 : tie.Need-enum-known-r-2 Inv-loop μ-loop
 enum-known-r-2 c = search needs
 
 returns : tie.Need-returns Inv-loop μ-loop
-returns c = record { case = matching-differs _ _ _ _ _ _ _ _ _ (c .before .before .before .before .before .loop .inv) (c .before .before .before .before .loop-test .taken) _ (c .before .before .before .pass .ensures) _ _ (c .before .r2 .given .1) }
+returns c =
+    let at-pass = c .before .before .before in
+    let at-loop-test = at-pass .before in
+    let at-loop = at-loop-test .before in
+    record { case = matching-differs _ _ _ _ _ _ _ _ _ (at-loop .loop .inv) (at-loop-test .loop-test .taken) _ (at-pass .pass .ensures) _ _ (c .before .r2 .given .1) }
 
 add-k : tie.Need-add-k Inv-loop μ-loop
 add-k c = search needs

@@ -22,7 +22,10 @@ smaller-requires : tie.Need-smaller-requires
 smaller-requires c κs = search needs
 
 returns-2 : tie.Need-returns-2
-returns-2 c = take-other _ _ (c .before .before .before .before .before .before .pre .0) _ _ (c .before .before .before .before .if1 .left) _ (c .before .before .half .ensures .0) (λ e. omega (arith, c .before .if2 .taken)) _ (c .smaller .ensures)
+returns-2 c =
+    let at-if = c .before .before .before .before in
+    let at-pre = at-if .before .before in
+    take-other _ _ (at-pre .pre .0) _ _ (at-if .if1 .left) _ (c .before .before .half .ensures .0) (λ e. omega (arith, c .before .if2 .taken)) _ (c .smaller .ensures)
 
 add-next-group : tie.Need-add-next-group
 add-next-group c = search needs
@@ -40,7 +43,11 @@ add-t13 : tie.Need-add-t13
 add-t13 c = search needs
 
 returns-3 : tie.Need-returns-3
-returns-3 c = take-same _ _ (c .before .before .before .before .before .before .before .pre .0) _ _ (c .before .before .before .before .before .if1 .left) _ (c .before .before .before .half .ensures .0) (c .before .before .if2 .left) _ _ (c .before .next-group .ensures) (c .count .ensures)
+returns-3 c =
+    let at-half = c .before .before .before in
+    let at-if = at-half .before .before in
+    let at-pre = at-if .before .before in
+    take-same _ _ (at-pre .pre .0) _ _ (at-if .if1 .left) _ (at-half .half .ensures .0) (c .before .before .if2 .left) _ _ (c .before .next-group .ensures) (c .count .ensures)
 
 pub take-group-spec : {M : Type 1} → statement M
 take-group-spec =

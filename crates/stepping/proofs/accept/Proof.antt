@@ -35,7 +35,11 @@ same-length-2 : tie.Need-same-length-2
 same-length-2 c = search needs
 
 returns-3 : tie.Need-returns-3
-returns-3 c = record { case = record { more = omega (arith, c .before .before .before .before .before .before .before .before .before .if1 .left); room = omega (arith, c .before .before .before .before .before .before .before .before .if2 .left); after = c .before .before .before .before .before .before .append .ensures; is = refl } }
+returns-3 c =
+    let at-append = c .before .before .before .before .before .before in
+    let at-if = at-append .before .before in
+    let at-if-2 = at-if .before in
+    record { case = record { more = omega (arith, at-if-2 .if1 .left); room = omega (arith, at-if .if2 .left); after = at-append .append .ensures; is = refl } }
 
 pub accept-spec : {M : Type 1} → statement M
 accept-spec =

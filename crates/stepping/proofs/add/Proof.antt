@@ -11,7 +11,9 @@ slice-aggregate-judge-addition : tie.Need-slice-aggregate-judge-addition
 slice-aggregate-judge-addition c = sym (front-long _ _ _ _ _ _ _ _ (c .before .before .before .before .before .before .before .before .before .pre))
 
 judge-addition-requires : tie.Need-judge-addition-requires
-judge-addition-requires c κs = (addable-front _ _ _ _ _ _ _ _ (c .before .before .before .before .before .before .before .before .before .before .before .pre), c .before .before .before .before .before .before .before .before .before .before .before .pre .few)
+judge-addition-requires c κs =
+    let at-pre = c .before .before .before .before .before .before .before .before .before .before .before in
+    (addable-front _ _ _ _ _ _ _ _ (at-pre .pre), at-pre .pre .few)
 
 accept-by-requires : tie.Need-accept-by-requires
 accept-by-requires c κs = search needs
@@ -29,7 +31,11 @@ same-length-4 : tie.Need-same-length-4
 same-length-4 c = search needs
 
 returns : tie.Need-returns
-returns c = addition-adds _ _ _ _ _ _ _ _ (c .before .before .before .before .before .before .before .before .before .before .before .before .before .before .before .before .before .before .before .before .before .before .before .pre) _ _ _ _ _ (c .before .before .before .before .before .before .before .before .before .before .before .judge-addition .ensures) _ _ (c .before .before .before .before .accept-by .ensures)
+returns c =
+    let at-accept-by = c .before .before .before .before in
+    let at-judge-addition = at-accept-by .before .before .before .before .before .before .before in
+    let at-pre = at-judge-addition .before .before .before .before .before .before .before .before .before .before .before .before in
+    addition-adds _ _ _ _ _ _ _ _ (at-pre .pre) _ _ _ _ _ (at-judge-addition .judge-addition .ensures) _ _ (at-accept-by .accept-by .ensures)
 
 pub add-spec : {M : Type 1} → statement M
 add-spec =

@@ -33,7 +33,11 @@ same-length-3 : tie.Need-same-length-3
 same-length-3 c = search needs
 
 returns-2 : tie.Need-returns-2
-returns-2 c = (back-moved _ _ _ (c .before .before .before .before .before .before .before .before .before .before .before .before .before .before .before .before .before .before .before .pre) _ _ _ (c .before .before .before .before .before .before .before .before .before .before .compact .ensures), back-turns _ _ _ (c .before .before .before .before .before .before .before .before .before .before .before .before .before .before .before .before .before .before .before .pre) _ _ _ (c .before .before .before .before .before .before .before .before .before .before .compact .ensures) _ _ (c .before .before .before .note-all .ensures .0) (c .plus .ensures))
+returns-2 c =
+    let at-note-all = c .before .before .before in
+    let at-compact = at-note-all .before .before .before .before .before .before .before in
+    let at-pre = at-compact .before .before .before .before .before .before .before .before .before in
+    (back-moved _ _ _ (at-pre .pre) _ _ _ (at-compact .compact .ensures), back-turns _ _ _ (at-pre .pre) _ _ _ (at-compact .compact .ensures) _ _ (at-note-all .note-all .ensures .0) (c .plus .ensures))
 
 pub give-back-spec : {M : Type 1} → statement M
 give-back-spec =

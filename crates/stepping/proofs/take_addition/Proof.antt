@@ -32,7 +32,9 @@ same-length-4 : tie.Need-same-length-4
 same-length-4 c = search needs
 
 returns : tie.Need-returns
-returns c = (c .before .before .before .before .before .before .before .before .before .before .add .ensures .0, (refl, spent-most _ _ _ _ _ (c .before .before .before .before .before .before .before .before .before .before .add .ensures .1) (c .reading-and .ensures)))
+returns c =
+    let at-add = c .before .before .before .before .before .before .before .before .before .before in
+    (at-add .add .ensures .0, (refl, spent-most _ _ _ _ _ (at-add .add .ensures .1) (c .reading-and .ensures)))
 
 pub take-addition-spec : {M : Type 1} → statement M
 take-addition-spec =

@@ -56,7 +56,13 @@ loop-less : tie.Need-loop-less Inv-loop μ-loop
 loop-less c = omega (arith, c .before .before .before .before .before .loop-test .taken, c .before .before .before .before .before .before .loop .inv .long)
 
 loop-again : tie.Need-loop-again Inv-loop μ-loop
-loop-again c = along-more _ _ _ _ _ _ _ _ (c .before .before .before .before .before .before .loop .inv) _ (c .before .before .before .before .short-at .ensures) (c .before .before .before .if1 .left) _ (c .before .narrow .ensures) (c .before .before .if2 .left) (c .before .before .before .before .before .loop-test .taken) _ refl _ (c .index .ensures)
+loop-again c =
+    let at-if = c .before .before .before in
+    let at-short-at = at-if .before in
+    let at-loop-test = at-short-at .before in
+    let at-loop = at-loop-test .before in
+    along-more _ _ _ _ _ _ _ _ (at-loop .loop .inv) _ (at-short-at .short-at .ensures) (at-if .if1 .left) _ (c .before .narrow .ensures) (c .before .before .if2 .left) (at-loop-test .loop-test .taken)
+    _ refl _ (c .index .ensures)
 
 same-length-3 : tie.Need-same-length-3 Inv-loop μ-loop
 same-length-3 c = c .before .loop .inv .long

@@ -42,7 +42,12 @@ same-length : tie.Need-same-length
 same-length c = search needs
 
 returns-3 : tie.Need-returns-3
-returns-3 c = onward-literals _ _ _ _ _ _ _ _ _ _ (c .before .before .before .before .before .before .enum-told3 .given .1) (omega (arith, c .before .before .before .before .smaller .ensures, c .before .before .before .before .before .count .ensures)) (omega (arith, c .before .before .before .before .smaller .ensures)) (c .before .before .along .ensures)
+returns-3 c =
+    let at-smaller = c .before .before .before .before in
+    let at-count = at-smaller .before in
+    let at-enum-told = at-count .before in
+    onward-literals _ _ _ _ _ _ _ _ _ _ (at-enum-told .enum-told3 .given .1) (omega (arith, at-smaller .smaller .ensures, at-count .count .ensures)) (omega (arith, at-smaller .smaller .ensures))
+    (c .before .before .along .ensures)
 
 same-length-2 : tie.Need-same-length-2
 same-length-2 c = search needs

@@ -29,37 +29,79 @@ enum-known-fed : tie.Need-enum-known-fed Inv-loop μ-loop
 enum-known-fed c = search needs
 
 go-on-requires : tie.Need-go-on-requires Inv-loop μ-loop
-go-on-requires c κs = reading-next _ _ _ _ _ _ _ _ _ _ (c .before .before .before .before .before .before .before .before .before .before .before .before .before .loop .inv) _ _ (c .before .before .before .before .before .before .before .before .before .before .before .before .token-at .ensures) _ _ _ (c .before .before .before .before .before .before .before .before .before .feed .ensures) _ (c .before .before .before .fed .given .1) .within
+go-on-requires c κs =
+    let at-fed = c .before .before .before in
+    let at-feed = at-fed .before .before .before .before .before .before in
+    let at-token-at = at-feed .before .before .before in
+    let at-loop = at-token-at .before in
+    reading-next _ _ _ _ _ _ _ _ _ _ (at-loop .loop .inv) _ _ (at-token-at .token-at .ensures) _ _ _ (at-feed .feed .ensures) _ (at-fed .fed .given .1) .within
 
 loop-less : tie.Need-loop-less Inv-loop μ-loop
-loop-less c = omega (arith, reading-next _ _ _ _ _ _ _ _ _ _ (c .before .before .before .before .before .before .before .before .before .before .before .before .before .before .before .before .before .before .before .loop .inv) _ _ (c .before .before .before .before .before .before .before .before .before .before .before .before .before .before .before .before .before .before .token-at .ensures) _ _ _ (c .before .before .before .before .before .before .before .before .before .before .before .before .before .before .before .feed .ensures) _ (c .before .before .before .before .before .before .before .before .before .fed .given .1) .later, c .before .before .before .before .before .go-on .ensures .later, c .before .before .before .before .before .go-on .ensures .within)
+loop-less c =
+    let at-go-on = c .before .before .before .before .before in
+    let at-fed = at-go-on .before .before .before .before in
+    let at-feed = at-fed .before .before .before .before .before .before in
+    let at-token-at = at-feed .before .before .before in
+    let at-loop = at-token-at .before in
+    omega
+    (arith, reading-next _ _ _ _ _ _ _ _ _ _ (at-loop .loop .inv) _ _ (at-token-at .token-at .ensures) _ _ _ (at-feed .feed .ensures) _ (at-fed .fed .given .1) .later, at-go-on .go-on .ensures .later, at-go-on .go-on .ensures .within)
 
 loop-again : tie.Need-loop-again Inv-loop μ-loop
-loop-again c = c .before .before .before .before .before .go-on .ensures .on _ _ _ _ (reading-on _ _ _ _ _ _ _ _ _ _ (c .before .before .before .before .before .before .before .before .before .before .before .before .before .before .before .before .before .before .before .loop .inv) _ _ (c .before .before .before .before .before .before .before .before .before .before .before .before .before .before .before .before .before .before .token-at .ensures) _ _ _ (c .before .before .before .before .before .before .before .before .before .before .before .before .before .before .before .feed .ensures) _ (c .before .before .before .before .before .before .before .before .before .fed .given .1))
+loop-again c =
+    let at-go-on = c .before .before .before .before .before in
+    let at-fed = at-go-on .before .before .before .before in
+    let at-feed = at-fed .before .before .before .before .before .before in
+    let at-token-at = at-feed .before .before .before in
+    let at-loop = at-token-at .before in
+    at-go-on .go-on .ensures .on _ _ _ _ (reading-on _ _ _ _ _ _ _ _ _ _ (at-loop .loop .inv) _ _ (at-token-at .token-at .ensures) _ _ _ (at-feed .feed .ensures) _ (at-fed .fed .given .1))
 
 enum-known-fed-2 : tie.Need-enum-known-fed-2 Inv-loop μ-loop
 enum-known-fed-2 c = search needs
 
 same-length : tie.Need-same-length Inv-loop μ-loop
-same-length c = reading-lits _ _ _ _ _ _ _ _ _ _ (c .before .before .before .before .before .before .before .before .before .before .before .loop .inv) _ _ (c .before .before .before .before .before .before .before .before .before .before .token-at .ensures) _ _ _ (c .before .before .before .before .before .before .before .feed .ensures)
+same-length c =
+    let at-feed = c .before .before .before .before .before .before .before in
+    let at-token-at = at-feed .before .before .before in
+    let at-loop = at-token-at .before in
+    reading-lits _ _ _ _ _ _ _ _ _ _ (at-loop .loop .inv) _ _ (at-token-at .token-at .ensures) _ _ _ (at-feed .feed .ensures)
 
 same-length-2 : tie.Need-same-length-2 Inv-loop μ-loop
-same-length-2 c = reading-hints _ _ _ _ _ _ _ _ _ _ (c .before .before .before .before .before .before .before .before .before .before .before .loop .inv) _ _ (c .before .before .before .before .before .before .before .before .before .before .token-at .ensures) _ _ _ (c .before .before .before .before .before .before .before .feed .ensures)
+same-length-2 c =
+    let at-feed = c .before .before .before .before .before .before .before in
+    let at-token-at = at-feed .before .before .before in
+    let at-loop = at-token-at .before in
+    reading-hints _ _ _ _ _ _ _ _ _ _ (at-loop .loop .inv) _ _ (at-token-at .token-at .ensures) _ _ _ (at-feed .feed .ensures)
 
 returns : tie.Need-returns Inv-loop μ-loop
-returns c = reading-added _ _ _ _ _ _ _ _ _ _ (c .before .before .before .before .before .before .before .before .before .before .before .loop .inv) _ _ (c .before .before .before .before .before .before .before .before .before .before .token-at .ensures) _ _ _ (c .before .before .before .before .before .before .before .feed .ensures) _ _ _ (c .before .fed2 .given .1)
+returns c =
+    let at-feed = c .before .before .before .before .before .before .before in
+    let at-token-at = at-feed .before .before .before in
+    let at-loop = at-token-at .before in
+    reading-added _ _ _ _ _ _ _ _ _ _ (at-loop .loop .inv) _ _ (at-token-at .token-at .ensures) _ _ _ (at-feed .feed .ensures) _ _ _ (c .before .fed2 .given .1)
 
 enum-known-fed-3 : tie.Need-enum-known-fed-3 Inv-loop μ-loop
 enum-known-fed-3 c = search needs
 
 same-length-3 : tie.Need-same-length-3 Inv-loop μ-loop
-same-length-3 c = reading-lits _ _ _ _ _ _ _ _ _ _ (c .before .before .before .before .before .before .before .before .before .before .before .loop .inv) _ _ (c .before .before .before .before .before .before .before .before .before .before .token-at .ensures) _ _ _ (c .before .before .before .before .before .before .before .feed .ensures)
+same-length-3 c =
+    let at-feed = c .before .before .before .before .before .before .before in
+    let at-token-at = at-feed .before .before .before in
+    let at-loop = at-token-at .before in
+    reading-lits _ _ _ _ _ _ _ _ _ _ (at-loop .loop .inv) _ _ (at-token-at .token-at .ensures) _ _ _ (at-feed .feed .ensures)
 
 same-length-4 : tie.Need-same-length-4 Inv-loop μ-loop
-same-length-4 c = reading-hints _ _ _ _ _ _ _ _ _ _ (c .before .before .before .before .before .before .before .before .before .before .before .loop .inv) _ _ (c .before .before .before .before .before .before .before .before .before .before .token-at .ensures) _ _ _ (c .before .before .before .before .before .before .before .feed .ensures)
+same-length-4 c =
+    let at-feed = c .before .before .before .before .before .before .before in
+    let at-token-at = at-feed .before .before .before in
+    let at-loop = at-token-at .before in
+    reading-hints _ _ _ _ _ _ _ _ _ _ (at-loop .loop .inv) _ _ (at-token-at .token-at .ensures) _ _ _ (at-feed .feed .ensures)
 
 returns-2 : tie.Need-returns-2 Inv-loop μ-loop
-returns-2 c = reading-deleted _ _ _ _ _ _ _ _ _ _ (c .before .before .before .before .before .before .before .before .before .before .before .loop .inv) _ _ (c .before .before .before .before .before .before .before .before .before .before .token-at .ensures) _ _ _ (c .before .before .before .before .before .before .before .feed .ensures) _ (c .before .fed3 .given .1)
+returns-2 c =
+    let at-feed = c .before .before .before .before .before .before .before in
+    let at-token-at = at-feed .before .before .before in
+    let at-loop = at-token-at .before in
+    reading-deleted _ _ _ _ _ _ _ _ _ _ (at-loop .loop .inv) _ _ (at-token-at .token-at .ensures) _ _ _ (at-feed .feed .ensures) _ (c .before .fed3 .given .1)
 
 enum-told : tie.Need-enum-told Inv-loop μ-loop
 enum-told c = search needs
@@ -68,25 +110,49 @@ unread-requires : tie.Need-unread-requires Inv-loop μ-loop
 unread-requires c κs = search needs
 
 same-length-5 : tie.Need-same-length-5 Inv-loop μ-loop
-same-length-5 c = reading-lits _ _ _ _ _ _ _ _ _ _ (c .before .before .before .before .before .before .before .before .before .before .before .loop .inv) _ _ (c .before .before .before .before .before .before .before .before .before .before .token-at .ensures) _ _ _ (c .before .before .before .before .before .before .before .feed .ensures)
+same-length-5 c =
+    let at-feed = c .before .before .before .before .before .before .before in
+    let at-token-at = at-feed .before .before .before in
+    let at-loop = at-token-at .before in
+    reading-lits _ _ _ _ _ _ _ _ _ _ (at-loop .loop .inv) _ _ (at-token-at .token-at .ensures) _ _ _ (at-feed .feed .ensures)
 
 same-length-6 : tie.Need-same-length-6 Inv-loop μ-loop
-same-length-6 c = reading-hints _ _ _ _ _ _ _ _ _ _ (c .before .before .before .before .before .before .before .before .before .before .before .loop .inv) _ _ (c .before .before .before .before .before .before .before .before .before .before .token-at .ensures) _ _ _ (c .before .before .before .before .before .before .before .feed .ensures)
+same-length-6 c =
+    let at-feed = c .before .before .before .before .before .before .before in
+    let at-token-at = at-feed .before .before .before in
+    let at-loop = at-token-at .before in
+    reading-hints _ _ _ _ _ _ _ _ _ _ (at-loop .loop .inv) _ _ (at-token-at .token-at .ensures) _ _ _ (at-feed .feed .ensures)
 
 returns-3 : tie.Need-returns-3 Inv-loop μ-loop
-returns-3 c = reading-unread _ _ _ _ _ _ _ _ _ _ (c .before .before .before .before .before .before .before .before .before .before .before .loop .inv) _ _ (c .before .before .before .before .before .before .before .before .before .before .token-at .ensures) _ _ _ (c .before .before .before .before .before .before .before .feed .ensures) (c .before .enum-told .given .1) _ (c .unread .ensures)
+returns-3 c =
+    let at-feed = c .before .before .before .before .before .before .before in
+    let at-token-at = at-feed .before .before .before in
+    let at-loop = at-token-at .before in
+    reading-unread _ _ _ _ _ _ _ _ _ _ (at-loop .loop .inv) _ _ (at-token-at .token-at .ensures) _ _ _ (at-feed .feed .ensures) (c .before .enum-told .given .1) _ (c .unread .ensures)
 
 enum-told-2 : tie.Need-enum-told-2 Inv-loop μ-loop
 enum-told-2 c = search needs
 
 same-length-7 : tie.Need-same-length-7 Inv-loop μ-loop
-same-length-7 c = reading-lits _ _ _ _ _ _ _ _ _ _ (c .before .before .before .before .before .before .before .before .before .before .loop .inv) _ _ (c .before .before .before .before .before .before .before .before .before .token-at .ensures) _ _ _ (c .before .before .before .before .before .before .feed .ensures)
+same-length-7 c =
+    let at-feed = c .before .before .before .before .before .before in
+    let at-token-at = at-feed .before .before .before in
+    let at-loop = at-token-at .before in
+    reading-lits _ _ _ _ _ _ _ _ _ _ (at-loop .loop .inv) _ _ (at-token-at .token-at .ensures) _ _ _ (at-feed .feed .ensures)
 
 same-length-8 : tie.Need-same-length-8 Inv-loop μ-loop
-same-length-8 c = reading-hints _ _ _ _ _ _ _ _ _ _ (c .before .before .before .before .before .before .before .before .before .before .loop .inv) _ _ (c .before .before .before .before .before .before .before .before .before .token-at .ensures) _ _ _ (c .before .before .before .before .before .before .feed .ensures)
+same-length-8 c =
+    let at-feed = c .before .before .before .before .before .before in
+    let at-token-at = at-feed .before .before .before in
+    let at-loop = at-token-at .before in
+    reading-hints _ _ _ _ _ _ _ _ _ _ (at-loop .loop .inv) _ _ (at-token-at .token-at .ensures) _ _ _ (at-feed .feed .ensures)
 
 returns-4 : tie.Need-returns-4 Inv-loop μ-loop
-returns-4 c = reading-short _ _ _ _ _ _ _ _ _ _ (c .before .before .before .before .before .before .before .before .before .before .loop .inv) _ _ (c .before .before .before .before .before .before .before .before .before .token-at .ensures) _ _ _ (c .before .before .before .before .before .before .feed .ensures) (c .enum-told2 .given .1)
+returns-4 c =
+    let at-feed = c .before .before .before .before .before .before in
+    let at-token-at = at-feed .before .before .before in
+    let at-loop = at-token-at .before in
+    reading-short _ _ _ _ _ _ _ _ _ _ (at-loop .loop .inv) _ _ (at-token-at .token-at .ensures) _ _ _ (at-feed .feed .ensures) (c .enum-told2 .given .1)
 
 pub read-step-spec : {M : Type 1} → statement M
 read-step-spec =

@@ -75,7 +75,19 @@ wide-requires-8 : tie.Need-wide-requires-8
 wide-requires-8 c κs = search needs
 
 returns : tie.Need-returns
-returns c = byte-on _ _ 7 _ _ (byte-on _ _ 6 _ _ (byte-on _ _ 5 _ _ (byte-on _ _ 4 _ _ (byte-on _ _ 3 _ _ (byte-on _ _ 2 _ _ (byte-on _ _ 1 _ _ (one-byte _ _ _ (c .before .before .before .before .before .before .before .before .before .before .before .before .before .before .wide .ensures)) (c .before .before .before .before .before .before .before .before .before .before .before .before .wide2 .ensures) (omega (arith, c .before .before .before .before .before .before .before .before .before .before .before .before .wide2 .ensures .1))) (c .before .before .before .before .before .before .before .before .before .before .wide3 .ensures) (omega (arith, c .before .before .before .before .before .before .before .before .before .before .wide3 .ensures .1))) (c .before .before .before .before .before .before .before .before .wide4 .ensures) (omega (arith, c .before .before .before .before .before .before .before .before .wide4 .ensures .1))) (c .before .before .before .before .before .before .wide5 .ensures) (omega (arith, c .before .before .before .before .before .before .wide5 .ensures .1))) (c .before .before .before .before .wide6 .ensures) (omega (arith, c .before .before .before .before .wide6 .ensures .1))) (c .before .before .wide7 .ensures) (omega (arith, c .before .before .wide7 .ensures .1))) (c .wide8 .ensures) (omega (arith, c .wide8 .ensures .1))
+returns c =
+    let at-wide = c .before .before .before .before in
+    let at-wide-2 = at-wide .before .before in
+    let at-wide-3 = at-wide-2 .before .before in
+    let at-wide-4 = at-wide-3 .before .before in
+    let at-wide-5 = at-wide-4 .before .before in
+    let at-wide-6 = at-wide-5 .before .before in
+    byte-on _ _ 7 _ _
+    (byte-on _ _ 6 _ _ (byte-on _ _ 5 _ _ (byte-on _ _ 4 _ _
+    (byte-on _ _ 3 _ _ (byte-on _ _ 2 _ _ (byte-on _ _ 1 _ _ (one-byte _ _ _ (at-wide-6 .wide .ensures)) (at-wide-5 .wide2 .ensures) (omega (arith, at-wide-5 .wide2 .ensures .1)))
+    (at-wide-4 .wide3 .ensures) (omega (arith, at-wide-4 .wide3 .ensures .1))) (at-wide-3 .wide4 .ensures) (omega (arith, at-wide-3 .wide4 .ensures .1))) (at-wide-2 .wide5 .ensures)
+    (omega (arith, at-wide-2 .wide5 .ensures .1))) (at-wide .wide6 .ensures) (omega (arith, at-wide .wide6 .ensures .1))) (c .before .before .wide7 .ensures) (omega (arith, c .before .before .wide7 .ensures .1)))
+    (c .wide8 .ensures) (omega (arith, c .wide8 .ensures .1))
 
 pub eight-spec : {M : Type 1} → statement M
 eight-spec =

@@ -43,13 +43,23 @@ add-i : tie.Need-add-i Inv-loop μ-loop
 add-i c = search needs
 
 returns-3 : tie.Need-returns-3 Inv-loop μ-loop
-returns-3 c = rw (c .before .wide .ensures .0) (ran-long _ _ _ _ _ (c .before .before .before .before .before .before .loop .inv) (c .before .before .before .before .before .loop-test .taken) (c .before .before .before .if1 .left) (c .before .before .if2 .left) (rw (c .before .wide .ensures .0) at (c .if3 .taken)))
+returns-3 c =
+    let at-if = c .before .before .before in
+    let at-loop-test = at-if .before .before in
+    let at-loop = at-loop-test .before in
+    rw (c .before .wide .ensures .0)
+    (ran-long _ _ _ _ _ (at-loop .loop .inv) (at-loop-test .loop-test .taken) (at-if .if1 .left) (c .before .before .if2 .left) (rw (c .before .wide .ensures .0) at (c .if3 .taken)))
 
 loop-less : tie.Need-loop-less Inv-loop μ-loop
 loop-less c = search needs
 
 loop-again : tie.Need-loop-again Inv-loop μ-loop
-loop-again c = rw (c .before .wide .ensures .0) (digits-on _ _ _ _ _ (c .before .before .before .before .before .before .loop .inv) (c .before .before .before .before .before .loop-test .taken) (c .before .before .before .if1 .left) (c .before .before .if2 .left) (rw (c .before .wide .ensures .0) at (c .if3 .left)))
+loop-again c =
+    let at-if = c .before .before .before in
+    let at-loop-test = at-if .before .before in
+    let at-loop = at-loop-test .before in
+    rw (c .before .wide .ensures .0)
+    (digits-on _ _ _ _ _ (at-loop .loop .inv) (at-loop-test .loop-test .taken) (at-if .if1 .left) (c .before .before .if2 .left) (rw (c .before .wide .ensures .0) at (c .if3 .left)))
 
 returns-4 : tie.Need-returns-4 Inv-loop μ-loop
 returns-4 c = ran-past _ _ _ _ _ (c .before .loop .inv) (c .loop-test .left)

@@ -96,7 +96,21 @@ add-result-3 : tie.Need-add-result-3
 add-result-3 c = search needs
 
 returns-8 : tie.Need-returns-8
-returns-8 c = short-some _ _ (omega (arith, c .before .before .before .before .before .before .before .before .before .before .before .before .before .before .before .before .before .before .if1 .left)) (c .before .before .before .before .before .before .before .before .before .before .before .before .before .before .before .before .if2 .left) _ _ _ _ _ (omega (arith, c .before .before .before .before .before .before .before .before .before .before .before .before .before .before .before .before .before .before .if1 .left)) (c .before .before .before .before .before .before .before .before .before .before .before .before .before .before .before .eight .ensures) (c .before .before .before .before .before .before .before .before .before .before .before .before .before .if3 .left) (c .before .before .before .before .before .before .before .before .before .before .before .before .if4 .left) (c .before .before .before .before .before .before .before .before .before .before .if5 .left) (c .before .before .before .before .before .before .before .before .sign-of .ensures) (c .before .before .before .before .before .before .digit .ensures) (c .before .before .before .before .before .if6 .left) (c .before .before .before .before .if7 .left) (c .before .before .before .worths .ensures) (c .before .before .all-digits .ensures .yes (c .before .if8 .taken)) _ (c .number-of .ensures .0)
+returns-8 c =
+    let at-worths = c .before .before .before in
+    let at-if = at-worths .before in
+    let at-if-2 = at-if .before in
+    let at-digit = at-if-2 .before in
+    let at-sign-of = at-digit .before .before in
+    let at-if-3 = at-sign-of .before .before in
+    let at-if-4 = at-if-3 .before .before in
+    let at-if-5 = at-if-4 .before in
+    let at-eight = at-if-5 .before .before in
+    let at-if-6 = at-eight .before in
+    let at-if-7 = at-if-6 .before .before in
+    short-some _ _ (omega (arith, at-if-7 .if1 .left)) (at-if-6 .if2 .left) _ _ _ _ _ (omega (arith, at-if-7 .if1 .left)) (at-eight .eight .ensures) (at-if-5 .if3 .left) (at-if-4 .if4 .left)
+    (at-if-3 .if5 .left) (at-sign-of .sign-of .ensures) (at-digit .digit .ensures) (at-if-2 .if6 .left) (at-if .if7 .left) (at-worths .worths .ensures)
+    (c .before .before .all-digits .ensures .yes (c .before .if8 .taken)) _ (c .number-of .ensures .0)
 
 returns-9 : tie.Need-returns-9
 returns-9 c = short-none _ _

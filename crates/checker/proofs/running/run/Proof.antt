@@ -33,40 +33,85 @@ stops-requires : tie.Need-stops-requires Inv-loop μ-loop
 stops-requires c κs = search needs
 
 end-by-requires : tie.Need-end-by-requires Inv-loop μ-loop
-end-by-requires c κs = running-small _ _ _ _ _ _ _ _ _ _ _ _ _ _ _ _ _ _ (c .before .before .before .before .before .before .before .before .before .before .before .before .before .before .before .before .before .before .before .before .before .before .loop .inv) (omega (arith, c .before .before .before .before .before .before .before .before .before .before .before .before .before .before .before .before .before .before .before .before .before .before .before .before .before .before .before .before .before .before .good .0 .1))
+end-by-requires c κs =
+    let back = c .before .before .before .before .before .before .before .before .before .before .before .before .before .before .before .before .before .before .before .before in
+    let at-loop = back .before .before in
+    let at-good = at-loop .before .before .before .before .before .before .before .before in
+    running-small _ _ _ _ _ _ _ _ _ _ _ _ _ _ _ _ _ _ (at-loop .loop .inv) (omega (arith, at-good .good .0 .1))
 
 same-length : tie.Need-same-length Inv-loop μ-loop
-same-length c = c .before .before .before .before .before .before .before .before .before .before .before .before .before .before .before .before .take-step .kept .1 .1 .1 .0 ∙ c .before .before .before .before .before .before .before .before .before .before .before .before .before .before .before .before .before .before .before .before .before .before .before .loop .inv .heads-long
+same-length c =
+    let at-take-step = c .before .before .before .before .before .before .before .before .before .before .before .before .before .before .before .before in
+    let at-loop = at-take-step .before .before .before .before .before .before .before in
+    at-take-step .take-step .kept .1 .1 .1 .0 ∙ at-loop .loop .inv .heads-long
 
 same-length-2 : tie.Need-same-length-2 Inv-loop μ-loop
-same-length-2 c = c .before .before .before .before .before .before .before .before .before .before .before .before .before .before .before .before .take-step .kept .1 .1 .1 .1 .0 ∙ c .before .before .before .before .before .before .before .before .before .before .before .before .before .before .before .before .before .before .before .before .before .before .before .loop .inv .lits-long
+same-length-2 c =
+    let at-take-step = c .before .before .before .before .before .before .before .before .before .before .before .before .before .before .before .before in
+    let at-loop = at-take-step .before .before .before .before .before .before .before in
+    at-take-step .take-step .kept .1 .1 .1 .1 .0 ∙ at-loop .loop .inv .lits-long
 
 same-length-3 : tie.Need-same-length-3 Inv-loop μ-loop
-same-length-3 c = c .before .before .before .before .before .before .before .before .before .before .before .before .before .before .before .before .take-step .kept .1 .1 .1 .1 .1 .0 ∙ c .before .before .before .before .before .before .before .before .before .before .before .before .before .before .before .before .before .before .before .before .before .before .before .loop .inv .hints-long
+same-length-3 c =
+    let at-take-step = c .before .before .before .before .before .before .before .before .before .before .before .before .before .before .before .before in
+    let at-loop = at-take-step .before .before .before .before .before .before .before in
+    at-take-step .take-step .kept .1 .1 .1 .1 .1 .0 ∙ at-loop .loop .inv .hints-long
 
 same-length-4 : tie.Need-same-length-4 Inv-loop μ-loop
-same-length-4 c = c .before .before .before .before .before .before .before .before .before .before .before .before .before .before .before .before .take-step .kept .1 .1 .1 .1 .1 .1 .0 ∙ c .before .before .before .before .before .before .before .before .before .before .before .before .before .before .before .before .before .before .before .before .before .before .before .loop .inv .guess-long
+same-length-4 c =
+    let at-take-step = c .before .before .before .before .before .before .before .before .before .before .before .before .before .before .before .before in
+    let at-loop = at-take-step .before .before .before .before .before .before .before in
+    at-take-step .take-step .kept .1 .1 .1 .1 .1 .1 .0 ∙ at-loop .loop .inv .guess-long
 
 same-length-5 : tie.Need-same-length-5 Inv-loop μ-loop
-same-length-5 c = c .before .before .before .before .before .before .before .before .before .before .before .before .before .before .before .before .take-step .kept .1 .1 .1 .1 .1 .1 .1 .0 ∙ c .before .before .before .before .before .before .before .before .before .before .before .before .before .before .before .before .before .before .before .before .before .before .before .loop .inv .marks-long
+same-length-5 c =
+    let at-take-step = c .before .before .before .before .before .before .before .before .before .before .before .before .before .before .before .before in
+    let at-loop = at-take-step .before .before .before .before .before .before .before in
+    at-take-step .take-step .kept .1 .1 .1 .1 .1 .1 .1 .0 ∙ at-loop .loop .inv .marks-long
 
 same-length-6 : tie.Need-same-length-6 Inv-loop μ-loop
-same-length-6 c = c .before .before .before .before .before .before .before .before .before .before .before .before .before .before .before .before .take-step .kept .1 .1 .1 .1 .1 .1 .1 .1 .0 ∙ c .before .before .before .before .before .before .before .before .before .before .before .before .before .before .before .before .before .before .before .before .before .before .before .loop .inv .tape-long
+same-length-6 c =
+    let at-take-step = c .before .before .before .before .before .before .before .before .before .before .before .before .before .before .before .before in
+    let at-loop = at-take-step .before .before .before .before .before .before .before in
+    at-take-step .take-step .kept .1 .1 .1 .1 .1 .1 .1 .1 .0 ∙ at-loop .loop .inv .tape-long
 
 returns : tie.Need-returns Inv-loop μ-loop
-returns c = running-end _ _ _ _ _ _ _ _ _ _ _ _ _ _ _ _ _ _ (c .before .before .before .before .before .before .before .before .before .before .before .before .before .before .before .before .before .before .before .before .before .before .before .loop .inv) _ _ _ _ _ _ _ (c .before .before .before .before .before .before .before .before .before .before .before .before .before .before .before .before .take-step .ensures) (c .before .before .before .plus .ensures) (sym (c .before .before .stops .ensures) ∙ c .before .if1 .taken) (omega (arith, c .before .before .before .before .before .before .before .before .before .before .before .before .before .before .before .before .before .before .before .before .before .before .before .before .before .before .before .before .before .before .before .good .0 .1)) _ (c .end-by .ensures)
+returns c =
+    let at-plus = c .before .before .before in
+    let at-take-step = at-plus .before .before .before .before .before .before .before .before .before .before .before .before .before in
+    let at-loop = at-take-step .before .before .before .before .before .before .before in
+    let at-good = at-loop .before .before .before .before .before .before .before .before in
+    running-end _ _ _ _ _ _ _ _ _ _ _ _ _ _ _ _ _ _ (at-loop .loop .inv) _ _ _ _ _ _ _ (at-take-step .take-step .ensures) (at-plus .plus .ensures)
+    (sym (c .before .before .stops .ensures) ∙ c .before .if1 .taken) (omega (arith, at-good .good .0 .1)) _ (c .end-by .ensures)
 
 onward-requires : tie.Need-onward-requires Inv-loop μ-loop
 onward-requires c κs = search needs
 
 add-done : tie.Need-add-done Inv-loop μ-loop
-add-done c = record { fits = omega (arith, running-small _ _ _ _ _ _ _ _ _ _ _ _ _ _ _ _ _ _ (c .before .before .before .before .before .before .before .before .before .before .before .before .before .before .before .before .before .before .before .before .before .before .before .loop .inv) (omega (arith, c .before .before .before .before .before .before .before .before .before .before .before .before .before .before .before .before .before .before .before .before .before .before .before .before .before .before .before .before .before .before .before .good .0 .1))) }
+add-done c =
+    let back = c .before .before .before .before .before .before .before .before .before .before .before .before .before .before .before .before .before .before .before .before in
+    let at-loop = back .before .before .before in
+    let at-good = at-loop .before .before .before .before .before .before .before .before in
+    record { fits = omega (arith, running-small _ _ _ _ _ _ _ _ _ _ _ _ _ _ _ _ _ _ (at-loop .loop .inv) (omega (arith, at-good .good .0 .1))) }
 
 loop-less : tie.Need-loop-less Inv-loop μ-loop
-loop-less c = running-less _ _ _ _ _ _ _ _ _ _ _ _ _ _ _ _ _ _ (c .before .before .before .before .before .before .before .before .before .before .before .before .before .before .before .before .before .before .before .before .before .before .before .loop .inv) _ _ _ _ _ _ _ (c .before .before .before .before .before .before .before .before .before .before .before .before .before .before .before .before .take-step .ensures) (c .before .before .before .plus .ensures) (sym (c .before .before .stops .ensures) ∙ c .before .if1 .left)
+loop-less c =
+    let at-plus = c .before .before .before in
+    let at-take-step = at-plus .before .before .before .before .before .before .before .before .before .before .before .before .before in
+    let at-loop = at-take-step .before .before .before .before .before .before .before in
+    running-less _ _ _ _ _ _ _ _ _ _ _ _ _ _ _ _ _ _ (at-loop .loop .inv) _ _ _ _ _ _ _ (at-take-step .take-step .ensures) (at-plus .plus .ensures)
+    (sym (c .before .before .stops .ensures) ∙ c .before .if1 .left)
 
 loop-again : tie.Need-loop-again Inv-loop μ-loop
-loop-again c = running-on _ _ _ _ _ _ _ _ _ _ _ _ _ _ _ _ _ _ (c .before .before .before .before .before .before .before .before .before .before .before .before .before .before .before .before .before .before .before .before .before .before .before .loop .inv) _ _ _ _ _ _ _ (c .before .before .before .before .before .before .before .before .before .before .before .before .before .before .before .before .take-step .ensures) (c .before .before .before .plus .ensures) _ _ _ (c .before .before .before .before .before .before .before .before .before .before .before .before .before .before .before .before .take-step .kept .1 .1 .1 .0) (c .before .before .before .before .before .before .before .before .before .before .before .before .before .before .before .before .take-step .kept .1 .1 .1 .1 .0) (c .before .before .before .before .before .before .before .before .before .before .before .before .before .before .before .before .take-step .kept .1 .1 .1 .1 .1 .0) (c .before .before .before .before .before .before .before .before .before .before .before .before .before .before .before .before .take-step .kept .1 .1 .1 .1 .1 .1 .0) (c .before .before .before .before .before .before .before .before .before .before .before .before .before .before .before .before .take-step .kept .1 .1 .1 .1 .1 .1 .1 .0) (c .before .before .before .before .before .before .before .before .before .before .before .before .before .before .before .before .take-step .kept .1 .1 .1 .1 .1 .1 .1 .1 .0) (omega (arith, c .before .before .before .before .before .before .before .before .before .before .before .before .before .before .before .before .before .before .before .before .before .before .before .before .before .before .before .before .before .before .before .good .0 .1)) (sym (c .before .before .stops .ensures) ∙ c .before .if1 .left) _ (c .onward .ensures)
+loop-again c =
+    let at-plus = c .before .before .before in
+    let at-take-step = at-plus .before .before .before .before .before .before .before .before .before .before .before .before .before in
+    let at-loop = at-take-step .before .before .before .before .before .before .before in
+    let at-good = at-loop .before .before .before .before .before .before .before .before in
+    running-on _ _ _ _ _ _ _ _ _ _ _ _ _ _ _ _ _ _ (at-loop .loop .inv) _ _ _ _ _ _ _ (at-take-step .take-step .ensures) (at-plus .plus .ensures) _ _ _ (at-take-step .take-step .kept .1 .1 .1 .0)
+    (at-take-step .take-step .kept .1 .1 .1 .1 .0) (at-take-step .take-step .kept .1 .1 .1 .1 .1 .0) (at-take-step .take-step .kept .1 .1 .1 .1 .1 .1 .0)
+    (at-take-step .take-step .kept .1 .1 .1 .1 .1 .1 .1 .0) (at-take-step .take-step .kept .1 .1 .1 .1 .1 .1 .1 .1 .0) (omega (arith, at-good .good .0 .1))
+    (sym (c .before .before .stops .ensures) ∙ c .before .if1 .left) _ (c .onward .ensures)
 
 pub run-spec : {M : Type 1} → statement M
 run-spec =

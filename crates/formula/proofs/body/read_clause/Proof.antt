@@ -31,7 +31,13 @@ same-length : tie.Need-same-length Inv-loop μ-loop
 same-length c = c .before .before .before .before .before .before .loop .inv .same
 
 returns : tie.Need-returns Inv-loop μ-loop
-returns c = record { case = reading-long _ (omega (arith, c .before .before .before .before .before .before .before .before .before .pre)) _ _ _ _ _ _ _ (c .before .before .before .before .before .before .loop .inv) _ _ (c .before .before .before .before .before .token-at .ensures) _ (sym (c .before .before .x .given .1) ∙ c .before .before .before .before .item-of .ensures) (c .if1 .taken) }
+returns c =
+    let at-item-of = c .before .before .before .before in
+    let at-token-at = at-item-of .before in
+    let at-loop = at-token-at .before in
+    let at-pre = at-loop .before .before .before in
+    record
+    { case = reading-long _ (omega (arith, at-pre .pre)) _ _ _ _ _ _ _ (at-loop .loop .inv) _ _ (at-token-at .token-at .ensures) _ (sym (c .before .before .x .given .1) ∙ at-item-of .item-of .ensures) (c .if1 .taken) }
 
 push-requires : tie.Need-push-requires Inv-loop μ-loop
 push-requires c κs = search needs
@@ -43,7 +49,12 @@ same-length-2 : tie.Need-same-length-2 Inv-loop μ-loop
 same-length-2 c = c .before .before .before .before .loop .inv .same
 
 returns-2 : tie.Need-returns-2 Inv-loop μ-loop
-returns-2 c = record { case = reading-done _ (omega (arith, c .before .before .before .before .before .before .before .pre)) _ _ _ _ _ _ _ (c .before .before .before .before .loop .inv) _ _ (c .before .before .before .token-at .ensures) (sym (c .enum-told .given .1) ∙ c .before .before .item-of .ensures) }
+returns-2 c =
+    let at-token-at = c .before .before .before in
+    let at-loop = at-token-at .before in
+    let at-pre = at-loop .before .before .before in
+    record
+    { case = reading-done _ (omega (arith, at-pre .pre)) _ _ _ _ _ _ _ (at-loop .loop .inv) _ _ (at-token-at .token-at .ensures) (sym (c .enum-told .given .1) ∙ c .before .before .item-of .ensures) }
 
 enum-told-2 : tie.Need-enum-told-2 Inv-loop μ-loop
 enum-told-2 c = search needs
@@ -52,18 +63,36 @@ same-length-3 : tie.Need-same-length-3 Inv-loop μ-loop
 same-length-3 c = c .before .before .before .before .loop .inv .same
 
 returns-3 : tie.Need-returns-3 Inv-loop μ-loop
-returns-3 c = record { case = reading-bad _ (omega (arith, c .before .before .before .before .before .before .before .pre)) _ _ _ _ _ _ _ (c .before .before .before .before .loop .inv) _ _ (c .before .before .before .token-at .ensures) (sym (c .enum-told2 .given .1) ∙ c .before .before .item-of .ensures) }
+returns-3 c =
+    let at-token-at = c .before .before .before in
+    let at-loop = at-token-at .before in
+    let at-pre = at-loop .before .before .before in
+    record
+    { case = reading-bad _ (omega (arith, at-pre .pre)) _ _ _ _ _ _ _ (at-loop .loop .inv) _ _ (at-token-at .token-at .ensures) (sym (c .enum-told2 .given .1) ∙ c .before .before .item-of .ensures) }
 
 add-w : tie.Need-add-w Inv-loop μ-loop
 add-w c = search needs
 
 loop-less : tie.Need-loop-less Inv-loop μ-loop
 loop-less c =
-    let taken = reading-next _ (omega (arith, c .before .before .before .before .before .before .before .before .before .before .before .before .before .pre)) _ _ _ _ _ _ _ (c .before .before .before .before .before .before .before .before .before .before .loop .inv) _ _ (c .before .before .before .before .before .before .before .before .before .token-at .ensures) _ (sym (c .before .before .before .before .before .before .x .given .1) ∙ c .before .before .before .before .before .before .before .before .item-of .ensures) in
+    let at-x = c .before .before .before .before .before .before in
+    let at-item-of = at-x .before .before in
+    let at-token-at = at-item-of .before in
+    let at-loop = at-token-at .before in
+    let at-pre = at-loop .before .before .before in
+    let taken = reading-next _ (omega (arith, at-pre .pre)) _ _ _ _ _ _ _ (at-loop .loop .inv) _ _ (at-token-at .token-at .ensures) _ (sym (at-x .x .given .1) ∙ at-item-of .item-of .ensures) in
     omega (arith, taken .later, taken .within)
 
 loop-again : tie.Need-loop-again Inv-loop μ-loop
-loop-again c = reading-on _ (omega (arith, c .before .before .before .before .before .before .before .before .before .before .before .before .before .pre)) _ _ _ _ _ _ _ (c .before .before .before .before .before .before .before .before .before .before .loop .inv) _ _ (c .before .before .before .before .before .before .before .before .before .token-at .ensures) _ _ (sym (c .before .before .before .before .before .before .x .given .1) ∙ c .before .before .before .before .before .before .before .before .item-of .ensures) (c .before .before .before .before .if1 .left) (c .before .before .push .ensures)
+loop-again c =
+    let at-if = c .before .before .before .before in
+    let at-x = at-if .before .before in
+    let at-item-of = at-x .before .before in
+    let at-token-at = at-item-of .before in
+    let at-loop = at-token-at .before in
+    let at-pre = at-loop .before .before .before in
+    reading-on _ (omega (arith, at-pre .pre)) _ _ _ _ _ _ _ (at-loop .loop .inv) _ _ (at-token-at .token-at .ensures) _ _ (sym (at-x .x .given .1) ∙ at-item-of .item-of .ensures) (at-if .if1 .left)
+    (c .before .before .push .ensures)
 
 pub read-clause-spec : {M : Type 1} → statement M
 read-clause-spec =

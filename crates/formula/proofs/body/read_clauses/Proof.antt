@@ -26,16 +26,29 @@ enum-known-r : tie.Need-enum-known-r Inv-loop μ-loop
 enum-known-r c = search needs
 
 close-requires : tie.Need-close-requires Inv-loop μ-loop
-close-requires c κs = omega (arith, c .before .before .before .before .before .before .before .before .loop-test .taken, c .before .before .before .before .before .before .before .before .before .before .before .before .before .pre .1 .0 .1)
+close-requires c κs =
+    let at-loop-test = c .before .before .before .before .before .before .before .before in
+    let at-pre = at-loop-test .before .before .before .before .before in
+    omega (arith, at-loop-test .loop-test .taken, at-pre .pre .1 .0 .1)
 
 same-length : tie.Need-same-length Inv-loop μ-loop
 same-length c = closes-long _ _ _ _ _ (c .before .before .before .close .ensures) ∙ c .before .before .before .before .before .before .before .before .before .before .before .before .before .loop .inv .heads-long
 
 same-length-2 : tie.Need-same-length-2 Inv-loop μ-loop
-same-length-2 c = reads-long _ _ _ _ _ _ _ (c .before .before .before .before .before .before .before .before .before .before .before .before .before .loop .inv .holds .store .fits) (c .before .before .before .before .before .before .before .before .before .before .read-clause .ensures) ∙ c .before .before .before .before .before .before .before .before .before .before .before .before .before .loop .inv .lits-long
+same-length-2 c =
+    let at-read-clause = c .before .before .before .before .before .before .before .before .before .before in
+    let at-loop = at-read-clause .before .before .before in
+    reads-long _ _ _ _ _ _ _ (at-loop .loop .inv .holds .store .fits) (at-read-clause .read-clause .ensures) ∙ at-loop .loop .inv .lits-long
 
 returns : tie.Need-returns Inv-loop μ-loop
-returns c = record { case = filling-full _ _ _ _ _ _ _ _ _ _ _ (c .before .before .before .before .before .before .before .before .before .before .before .before .before .loop .inv) (c .before .before .before .before .before .before .before .before .before .before .before .before .loop-test .taken) _ _ _ _ (c .before .before .before .before .before .before .before .before .before .before .read-clause .ensures) (c .before .before .before .before .before .before .r .given .1) _ _ (c .before .before .before .close .ensures) (not-true _ (c .if1 .taken)) }
+returns c =
+    let at-close = c .before .before .before in
+    let at-r = at-close .before .before .before in
+    let at-read-clause = at-r .before .before .before .before in
+    let at-loop-test = at-read-clause .before .before in
+    let at-loop = at-loop-test .before in
+    record
+    { case = filling-full _ _ _ _ _ _ _ _ _ _ _ (at-loop .loop .inv) (at-loop-test .loop-test .taken) _ _ _ _ (at-read-clause .read-clause .ensures) (at-r .r .given .1) _ _ (at-close .close .ensures) (not-true _ (c .if1 .taken)) }
 
 enum-known-r-2 : tie.Need-enum-known-r-2 Inv-loop μ-loop
 enum-known-r-2 c = search needs
@@ -44,10 +57,17 @@ same-length-3 : tie.Need-same-length-3 Inv-loop μ-loop
 same-length-3 c = c .before .before .before .before .before .before .before .before .loop .inv .heads-long
 
 same-length-4 : tie.Need-same-length-4 Inv-loop μ-loop
-same-length-4 c = reads-long _ _ _ _ _ _ _ (c .before .before .before .before .before .before .before .before .loop .inv .holds .store .fits) (c .before .before .before .before .before .read-clause .ensures) ∙ c .before .before .before .before .before .before .before .before .loop .inv .lits-long
+same-length-4 c =
+    let at-read-clause = c .before .before .before .before .before in
+    let at-loop = at-read-clause .before .before .before in
+    reads-long _ _ _ _ _ _ _ (at-loop .loop .inv .holds .store .fits) (at-read-clause .read-clause .ensures) ∙ at-loop .loop .inv .lits-long
 
 returns-2 : tie.Need-returns-2 Inv-loop μ-loop
-returns-2 c = record { case = filling-bad _ _ _ _ _ _ _ _ _ _ _ (c .before .before .before .before .before .before .before .before .loop .inv) (c .before .before .before .before .before .before .before .loop-test .taken) _ _ _ _ (c .before .before .before .before .before .read-clause .ensures) (c .before .r2 .given .1) }
+returns-2 c =
+    let at-read-clause = c .before .before .before .before .before in
+    let at-loop-test = at-read-clause .before .before in
+    let at-loop = at-loop-test .before in
+    record { case = filling-bad _ _ _ _ _ _ _ _ _ _ _ (at-loop .loop .inv) (at-loop-test .loop-test .taken) _ _ _ _ (at-read-clause .read-clause .ensures) (c .before .r2 .given .1) }
 
 enum-known-r-3 : tie.Need-enum-known-r-3 Inv-loop μ-loop
 enum-known-r-3 c = search needs
@@ -56,10 +76,17 @@ same-length-5 : tie.Need-same-length-5 Inv-loop μ-loop
 same-length-5 c = c .before .before .before .before .before .before .before .before .loop .inv .heads-long
 
 same-length-6 : tie.Need-same-length-6 Inv-loop μ-loop
-same-length-6 c = reads-long _ _ _ _ _ _ _ (c .before .before .before .before .before .before .before .before .loop .inv .holds .store .fits) (c .before .before .before .before .before .read-clause .ensures) ∙ c .before .before .before .before .before .before .before .before .loop .inv .lits-long
+same-length-6 c =
+    let at-read-clause = c .before .before .before .before .before in
+    let at-loop = at-read-clause .before .before .before in
+    reads-long _ _ _ _ _ _ _ (at-loop .loop .inv .holds .store .fits) (at-read-clause .read-clause .ensures) ∙ at-loop .loop .inv .lits-long
 
 returns-3 : tie.Need-returns-3 Inv-loop μ-loop
-returns-3 c = record { case = filling-long _ _ _ _ _ _ _ _ _ _ _ (c .before .before .before .before .before .before .before .before .loop .inv) (c .before .before .before .before .before .before .before .loop-test .taken) _ _ _ _ (c .before .before .before .before .before .read-clause .ensures) (c .before .r3 .given .1) }
+returns-3 c =
+    let at-read-clause = c .before .before .before .before .before in
+    let at-loop-test = at-read-clause .before .before in
+    let at-loop = at-loop-test .before in
+    record { case = filling-long _ _ _ _ _ _ _ _ _ _ _ (at-loop .loop .inv) (at-loop-test .loop-test .taken) _ _ _ _ (at-read-clause .read-clause .ensures) (c .before .r3 .given .1) }
 
 add-k : tie.Need-add-k Inv-loop μ-loop
 add-k c = search needs
@@ -68,7 +95,14 @@ loop-less : tie.Need-loop-less Inv-loop μ-loop
 loop-less c = search needs
 
 loop-again : tie.Need-loop-again Inv-loop μ-loop
-loop-again c = filling-on _ _ _ _ _ _ _ _ _ _ _ (c .before .before .before .before .before .before .before .before .before .before .before .before .before .loop .inv) (c .before .before .before .before .before .before .before .before .before .before .before .before .loop-test .taken) _ _ _ _ (c .before .before .before .before .before .before .before .before .before .before .read-clause .ensures) (c .before .before .before .before .before .before .r .given .1) _ _ (c .before .before .before .close .ensures) (not-false _ (c .if1 .left))
+loop-again c =
+    let at-close = c .before .before .before in
+    let at-r = at-close .before .before .before in
+    let at-read-clause = at-r .before .before .before .before in
+    let at-loop-test = at-read-clause .before .before in
+    let at-loop = at-loop-test .before in
+    filling-on _ _ _ _ _ _ _ _ _ _ _ (at-loop .loop .inv) (at-loop-test .loop-test .taken) _ _ _ _ (at-read-clause .read-clause .ensures) (at-r .r .given .1) _ _ (at-close .close .ensures)
+    (not-false _ (c .if1 .left))
 
 same-length-7 : tie.Need-same-length-7 Inv-loop μ-loop
 same-length-7 c = c .before .loop .inv .heads-long

@@ -38,10 +38,23 @@ enum-told : tie.Need-enum-told
 enum-told c = search needs
 
 returns-2 : tie.Need-returns-2
-returns-2 c = c .with-clauses .ensures ∙ announced-both (c .before .before .before .before .before .before .before .before .before .before .args .line .now) (c .before .before .before .before .before .before .before .before .prefixed .result) _ (c .before .before .before .before .before .before .before .before .prefixed .ensures) (not-false _ (c .before .before .before .before .before .before .before .if1 .left)) (c .before .before .before .before .before .before .first .ensures) _ (c .before .before .before .before .count-of .ensures) _ (c .before .before .v .given .1)
+returns-2 c =
+    let at-count-of = c .before .before .before .before in
+    let at-first = at-count-of .before .before in
+    let at-if = at-first .before in
+    let at-prefixed = at-if .before in
+    let at-args = at-prefixed .before .before in
+    c .with-clauses .ensures ∙ announced-both (at-args .args .line .now) (at-prefixed .prefixed .result) _ (at-prefixed .prefixed .ensures) (not-false _ (at-if .if1 .left)) (at-first .first .ensures)
+    _ (at-count-of .count-of .ensures) _ (c .before .before .v .given .1)
 
 returns-3 : tie.Need-returns-3
-returns-3 c = announced-none (c .before .before .before .before .before .before .before .before .args .line .now) (c .before .before .before .before .before .before .prefixed .result) _ (c .before .before .before .before .before .before .prefixed .ensures) (not-false _ (c .before .before .before .before .before .if1 .left)) (c .before .before .before .before .first .ensures) _ (c .before .before .count-of .ensures) (c .enum-told .given .1)
+returns-3 c =
+    let at-first = c .before .before .before .before in
+    let at-if = at-first .before in
+    let at-prefixed = at-if .before in
+    let at-args = at-prefixed .before .before in
+    announced-none (at-args .args .line .now) (at-prefixed .prefixed .result) _ (at-prefixed .prefixed .ensures) (not-false _ (at-if .if1 .left)) (at-first .first .ensures) _
+    (c .before .before .count-of .ensures) (c .enum-told .given .1)
 
 pub announced-spec : {M : Type 1} → statement M
 announced-spec =

@@ -27,7 +27,12 @@ within-requires : tie.Need-within-requires
 within-requires c κs = search needs
 
 returns-4 : tie.Need-returns-4
-returns-4 c = c .within .ensures ∙ count-all _ _ (c .before .before .before .before .before .before .if1 .left) (sym (c .before .before .before .before .is-blank .ensures) ∙ c .before .before .before .if2 .left) _ _ (c .before .before .token-at .ensures) (c .before .before .before .before .before .before .before .before .pre) (c .before .if3 .left)
+returns-4 c =
+    let at-if = c .before .before .before in
+    let at-is-blank = at-if .before in
+    let at-if-2 = at-is-blank .before .before in
+    let at-pre = at-if-2 .before .before in
+    c .within .ensures ∙ count-all _ _ (at-if-2 .if1 .left) (sym (at-is-blank .is-blank .ensures) ∙ at-if .if2 .left) _ _ (c .before .before .token-at .ensures) (at-pre .pre) (c .before .if3 .left)
 
 pub count-of-spec : {M : Type 1} → statement M
 count-of-spec =

@@ -20,31 +20,60 @@ shared-slice-read-if3 : tie.Need-shared-slice-read-if3
 shared-slice-read-if3 c = search needs
 
 returns-3 : tie.Need-returns-3
-returns-3 c = through-1 (c .before .before .before .before .before .args .line .now) (c .before .before .before .before .if1 .left) (c .before .before .if2 .left) ∙ prefix-off (c .before .before .before .before .before .args .line .now) 1 32 (bytes "cnf ") (omega (arith, c .before .before .before .before .if1 .left)) (c .if3 .taken)
+returns-3 c =
+    let at-if = c .before .before .before .before in
+    let at-args = at-if .before in
+    through-1 (at-args .args .line .now) (at-if .if1 .left) (c .before .before .if2 .left) ∙ prefix-off (at-args .args .line .now) 1 32 (bytes "cnf ") (omega (arith, at-if .if1 .left)) (c .if3 .taken)
 
 shared-slice-read-if4 : tie.Need-shared-slice-read-if4
 shared-slice-read-if4 c = search needs
 
 returns-4 : tie.Need-returns-4
-returns-4 c = through-2 (c .before .before .before .before .before .before .before .args .line .now) (c .before .before .before .before .before .before .if1 .left) (c .before .before .before .before .if2 .left) (c .before .before .if3 .left) ∙ prefix-off (c .before .before .before .before .before .before .before .args .line .now) 2 99 (bytes "nf ") (omega (arith, c .before .before .before .before .before .before .if1 .left)) (c .if4 .taken)
+returns-4 c =
+    let at-if = c .before .before .before .before in
+    let at-if-2 = at-if .before .before in
+    let at-args = at-if-2 .before in
+    through-2 (at-args .args .line .now) (at-if-2 .if1 .left) (at-if .if2 .left) (c .before .before .if3 .left) ∙ prefix-off (at-args .args .line .now) 2 99 (bytes "nf ")
+    (omega (arith, at-if-2 .if1 .left)) (c .if4 .taken)
 
 shared-slice-read-if5 : tie.Need-shared-slice-read-if5
 shared-slice-read-if5 c = search needs
 
 returns-5 : tie.Need-returns-5
-returns-5 c = through-3 (c .before .before .before .before .before .before .before .before .before .args .line .now) (c .before .before .before .before .before .before .before .before .if1 .left) (c .before .before .before .before .before .before .if2 .left) (c .before .before .before .before .if3 .left) (c .before .before .if4 .left) ∙ prefix-off (c .before .before .before .before .before .before .before .before .before .args .line .now) 3 110 (bytes "f ") (omega (arith, c .before .before .before .before .before .before .before .before .if1 .left)) (c .if5 .taken)
+returns-5 c =
+    let at-if = c .before .before .before .before in
+    let at-if-2 = at-if .before .before in
+    let at-if-3 = at-if-2 .before .before in
+    let at-args = at-if-3 .before in
+    through-3 (at-args .args .line .now) (at-if-3 .if1 .left) (at-if-2 .if2 .left) (at-if .if3 .left) (c .before .before .if4 .left) ∙ prefix-off (at-args .args .line .now) 3 110 (bytes "f ")
+    (omega (arith, at-if-3 .if1 .left)) (c .if5 .taken)
 
 shared-slice-read-if6 : tie.Need-shared-slice-read-if6
 shared-slice-read-if6 c = search needs
 
 returns-6 : tie.Need-returns-6
-returns-6 c = through-4 (c .before .before .before .before .before .before .before .before .before .before .before .args .line .now) (c .before .before .before .before .before .before .before .before .before .before .if1 .left) (c .before .before .before .before .before .before .before .before .if2 .left) (c .before .before .before .before .before .before .if3 .left) (c .before .before .before .before .if4 .left) (c .before .before .if5 .left) ∙ prefix-off (c .before .before .before .before .before .before .before .before .before .before .before .args .line .now) 4 102 (bytes " ") (omega (arith, c .before .before .before .before .before .before .before .before .before .before .if1 .left)) (c .if6 .taken)
+returns-6 c =
+    let at-if = c .before .before .before .before in
+    let at-if-2 = at-if .before .before in
+    let at-if-3 = at-if-2 .before .before in
+    let at-if-4 = at-if-3 .before .before in
+    let at-args = at-if-4 .before in
+    through-4 (at-args .args .line .now) (at-if-4 .if1 .left) (at-if-3 .if2 .left) (at-if-2 .if3 .left) (at-if .if4 .left) (c .before .before .if5 .left) ∙ prefix-off (at-args .args .line .now) 4 102
+    (bytes " ") (omega (arith, at-if-4 .if1 .left)) (c .if6 .taken)
 
 shared-slice-read-result : tie.Need-shared-slice-read-result
 shared-slice-read-result c = search needs
 
 returns-7 : tie.Need-returns-7
-returns-7 c = through-5 (c .before .before .before .before .before .before .before .before .before .before .before .before .args .line .now) (c .before .before .before .before .before .before .before .before .before .before .before .if1 .left) (c .before .before .before .before .before .before .before .before .before .if2 .left) (c .before .before .before .before .before .before .before .if3 .left) (c .before .before .before .before .before .if4 .left) (c .before .before .before .if5 .left) (c .before .if6 .left) ∙ through-last (c .before .before .before .before .before .before .before .before .before .before .before .before .args .line .now) (c .before .before .before .before .before .before .before .before .before .before .before .if1 .left)
+returns-7 c =
+    let at-if = c .before .before .before in
+    let at-if-2 = at-if .before .before in
+    let at-if-3 = at-if-2 .before .before in
+    let at-if-4 = at-if-3 .before .before in
+    let at-if-5 = at-if-4 .before .before in
+    let at-args = at-if-5 .before in
+    through-5 (at-args .args .line .now) (at-if-5 .if1 .left) (at-if-4 .if2 .left) (at-if-3 .if3 .left) (at-if-2 .if4 .left) (at-if .if5 .left) (c .before .if6 .left) ∙ through-last
+    (at-args .args .line .now) (at-if-5 .if1 .left)
 
 pub prefixed-spec : {M : Type 1} → statement M
 prefixed-spec =

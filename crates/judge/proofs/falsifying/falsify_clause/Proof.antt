@@ -15,7 +15,10 @@ same-length-2 : tie.Need-same-length-2
 same-length-2 c = search needs
 
 returns : tie.Need-returns
-returns c = whole-clause _ _ _ _ _ (c .before .before .before .before .before .before .before .before .before .before .pre .0) (c .before .before .before .before .before .before .before .before .before .before .pre .1 .0) (omega arith) _ _ _ _ _ (c .before .before .before .before .falsify-others .ensures)
+returns c =
+    let at-falsify-others = c .before .before .before .before in
+    let at-pre = at-falsify-others .before .before .before .before .before .before in
+    whole-clause _ _ _ _ _ (at-pre .pre .0) (at-pre .pre .1 .0) (omega arith) _ _ _ _ _ (at-falsify-others .falsify-others .ensures)
 
 pub falsify-clause-spec : {M : Type 1} → statement M
 falsify-clause-spec =

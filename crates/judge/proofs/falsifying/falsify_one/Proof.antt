@@ -18,7 +18,11 @@ slice-read-if2 : tie.Need-slice-read-if2
 slice-read-if2 c = one-inside _ _ (c .before .before .before .before .before .before .pre .0) (c .before .before .before .before .before .before .pre .1 .0) _ _ (c .before .cell .ensures) (c .before .before .opposite .ensures)
 
 returns-2 : tie.Need-returns-2
-returns-2 c = one-true _ _ _ _ _ (c .before .before .before .before .before .before .before .pre .1 .1) (c .before .before .before .before .if1 .left) _ _ (c .before .before .cell .ensures) (c .before .before .before .opposite .ensures) (c .if2 .taken)
+returns-2 c =
+    let at-opposite = c .before .before .before in
+    let at-if = at-opposite .before in
+    let at-pre = at-if .before .before .before in
+    one-true _ _ _ _ _ (at-pre .pre .1 .1) (at-if .if1 .left) _ _ (c .before .before .cell .ensures) (at-opposite .opposite .ensures) (c .if2 .taken)
 
 returns-3 : tie.Need-returns-3
 returns-3 c = one-short _ _ _ _ _ (c .before .before .before .before .before .before .before .before .pre .1 .1) (c .if3 .taken)
@@ -33,7 +37,14 @@ same-length-2 : tie.Need-same-length-2
 same-length-2 c = search needs
 
 returns-4 : tie.Need-returns-4
-returns-4 c = one-falls _ _ _ _ _ (c .before .before .before .before .before .before .before .before .before .before .before .before .before .before .before .pre .1 .1) (c .before .before .before .before .before .before .before .before .before .before .before .before .if1 .left) _ _ (c .before .before .before .before .before .before .before .before .before .before .cell .ensures) (c .before .before .before .before .before .before .before .before .before .before .before .opposite .ensures) (c .before .before .before .before .before .before .before .before .if2 .left) _ _ _ (c .before .before .before .before .falsify .ensures)
+returns-4 c =
+    let at-falsify = c .before .before .before .before in
+    let at-if = at-falsify .before .before .before .before in
+    let at-cell = at-if .before .before in
+    let at-opposite = at-cell .before in
+    let at-if-2 = at-opposite .before in
+    let at-pre = at-if-2 .before .before .before in
+    one-falls _ _ _ _ _ (at-pre .pre .1 .1) (at-if-2 .if1 .left) _ _ (at-cell .cell .ensures) (at-opposite .opposite .ensures) (at-if .if2 .left) _ _ _ (at-falsify .falsify .ensures)
 
 pub falsify-one-spec : {M : Type 1} → statement M
 falsify-one-spec =

@@ -25,10 +25,13 @@ shared-slice-read-x : tie.Need-shared-slice-read-x Inv-loop μ-loop
 shared-slice-read-x c = search needs
 
 falsify-one-requires : tie.Need-falsify-one-requires Inv-loop μ-loop
-falsify-one-requires c κs = (
-  falling-paired _ _ _ _ _ _ _ _ _ (c .before .before .before .before .loop .inv) (c .before .before .before .before .before .before .before .before .pre .0) (c .before .before .before .before .before .before .before .before .pre .1 .0),
-  (falling-known _ _ _ _ _ _ _ _ _ (c .before .before .before .before .loop .inv) (c .before .before .before .before .before .before .before .before .pre .0) (c .before .before .before .before .before .before .before .before .pre .1 .0) (c .before .before .before .loop-test .taken), c .before .before .before .before .loop .inv .laid .room),
-)
+falsify-one-requires c κs =
+    let at-loop-test = c .before .before .before in
+    let at-loop = at-loop-test .before in
+    let at-pre = at-loop .before .before .before .before in (
+      falling-paired _ _ _ _ _ _ _ _ _ (at-loop .loop .inv) (at-pre .pre .0) (at-pre .pre .1 .0),
+      (falling-known _ _ _ _ _ _ _ _ _ (at-loop .loop .inv) (at-pre .pre .0) (at-pre .pre .1 .0) (at-loop-test .loop-test .taken), at-loop .loop .inv .laid .room),
+    )
 
 ends-requires : tie.Need-ends-requires Inv-loop μ-loop
 ends-requires c κs = search needs
@@ -40,7 +43,13 @@ same-length-2 : tie.Need-same-length-2 Inv-loop μ-loop
 same-length-2 c = c .before .before .before .before .before .before .falsify-one .ensures .laid .long ∙ c .before .before .before .before .before .before .before .before .before .before .before .loop .inv .laid .long
 
 returns : tie.Need-returns Inv-loop μ-loop
-returns c = falling-stop _ _ _ _ _ _ _ _ _ (c .before .before .before .before .before .before .before .before .before .before .before .loop .inv) (c .before .before .before .before .before .before .before .before .before .before .before .before .before .before .before .pre .0) (c .before .before .before .before .before .before .before .before .before .before .before .before .before .before .before .pre .1 .0) (c .before .before .before .before .before .before .before .before .before .before .loop-test .taken) _ _ _ _ (c .before .before .before .before .before .before .falsify-one .ensures) _ (c .before .ends .ensures) (c .if1 .taken)
+returns c =
+    let at-falsify-one = c .before .before .before .before .before .before in
+    let at-loop-test = at-falsify-one .before .before .before .before in
+    let at-loop = at-loop-test .before in
+    let at-pre = at-loop .before .before .before .before in
+    falling-stop _ _ _ _ _ _ _ _ _ (at-loop .loop .inv) (at-pre .pre .0) (at-pre .pre .1 .0) (at-loop-test .loop-test .taken) _ _ _ _ (at-falsify-one .falsify-one .ensures) _
+    (c .before .ends .ensures) (c .if1 .taken)
 
 add-i : tie.Need-add-i Inv-loop μ-loop
 add-i c = search needs
@@ -49,7 +58,13 @@ loop-less : tie.Need-loop-less Inv-loop μ-loop
 loop-less c = omega (arith, c .before .before .before .before .before .before .before .before .before .before .loop-test .taken)
 
 loop-again : tie.Need-loop-again Inv-loop μ-loop
-loop-again c = falling-on _ _ _ _ _ _ _ _ _ (c .before .before .before .before .before .before .before .before .before .before .before .loop .inv) (c .before .before .before .before .before .before .before .before .before .before .before .before .before .before .before .pre .0) (c .before .before .before .before .before .before .before .before .before .before .before .before .before .before .before .pre .1 .0) (c .before .before .before .before .before .before .before .before .before .before .loop-test .taken) _ _ _ _ (c .before .before .before .before .before .before .falsify-one .ensures) _ (c .before .ends .ensures) (c .if1 .left)
+loop-again c =
+    let at-falsify-one = c .before .before .before .before .before .before in
+    let at-loop-test = at-falsify-one .before .before .before .before in
+    let at-loop = at-loop-test .before in
+    let at-pre = at-loop .before .before .before .before in
+    falling-on _ _ _ _ _ _ _ _ _ (at-loop .loop .inv) (at-pre .pre .0) (at-pre .pre .1 .0) (at-loop-test .loop-test .taken) _ _ _ _ (at-falsify-one .falsify-one .ensures) _ (c .before .ends .ensures)
+    (c .if1 .left)
 
 same-length-3 : tie.Need-same-length-3 Inv-loop μ-loop
 same-length-3 c = c .before .loop .inv .laid .differ .long

@@ -13,19 +13,28 @@ enum-known-found : tie.Need-enum-known-found
 enum-known-found c = search needs
 
 look-there-requires : tie.Need-look-there-requires
-look-there-requires c κs = (
-  found-lookable _ _ _ _ (c .before .before .before .before .before .before .before .pre .0) _ _ (c .before .before .before .lookup-at .ensures .0) (c .before .before .before .lookup-at .ensures .1) (omega arith) _ _ (c .before .found .given .1),
-  found-short-at _ _ _ _ (c .before .before .before .before .before .before .before .pre .0) _ _ (c .before .before .before .lookup-at .ensures .0) (c .before .before .before .lookup-at .ensures .1) (omega arith) _ _ (c .before .found .given .1),
-)
+look-there-requires c κs =
+    let at-lookup-at = c .before .before .before in
+    let at-pre = at-lookup-at .before .before .before .before in (
+      found-lookable _ _ _ _ (at-pre .pre .0) _ _ (at-lookup-at .lookup-at .ensures .0) (at-lookup-at .lookup-at .ensures .1) (omega arith) _ _ (c .before .found .given .1),
+      found-short-at _ _ _ _ (at-pre .pre .0) _ _ (at-lookup-at .lookup-at .ensures .0) (at-lookup-at .lookup-at .ensures .1) (omega arith) _ _ (c .before .found .given .1),
+    )
 
 enum-known-found-2 : tie.Need-enum-known-found-2
 enum-known-found-2 c = search needs
 
 returns : tie.Need-returns
-returns c = hint-live _ _ _ _ (c .before .before .before .before .before .before .before .before .pre .0) _ _ (c .before .before .before .before .lookup-at .ensures .0) (c .before .before .before .before .lookup-at .ensures .1) (omega arith) _ _ (c .before .before .found .given .1) _ _ (c .look-there .ensures)
+returns c =
+    let at-lookup-at = c .before .before .before .before in
+    let at-pre = at-lookup-at .before .before .before .before in
+    hint-live _ _ _ _ (at-pre .pre .0) _ _ (at-lookup-at .lookup-at .ensures .0) (at-lookup-at .lookup-at .ensures .1) (omega arith) _ _ (c .before .before .found .given .1) _ _
+    (c .look-there .ensures)
 
 returns-2 : tie.Need-returns-2
-returns-2 c = hint-not-live _ _ _ _ (c .before .before .before .before .before .before .before .pre .0) _ _ (c .before .before .before .lookup-at .ensures .0) (c .before .before .before .lookup-at .ensures .1) (omega arith) _ (c .before .found2 .given .1)
+returns-2 c =
+    let at-lookup-at = c .before .before .before in
+    let at-pre = at-lookup-at .before .before .before .before in
+    hint-not-live _ _ _ _ (at-pre .pre .0) _ _ (at-lookup-at .lookup-at .ensures .0) (at-lookup-at .lookup-at .ensures .1) (omega arith) _ (c .before .found2 .given .1)
 
 pub hint-spec : {M : Type 1} → statement M
 hint-spec =

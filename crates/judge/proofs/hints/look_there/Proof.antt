@@ -27,7 +27,9 @@ part-look-at-end : tie.Need-part-look-at-end
 part-look-at-end c = search needs
 
 look-at-requires : tie.Need-look-at-requires
-look-at-requires c κs = (c .before .before .before .before .before .before .pre .0 .paired, there-known _ _ _ _ 0 (c .before .before .before .before .before .before .pre .0) _ _ (c .before .before .start-at .ensures) (c .before .start-at2 .ensures))
+look-at-requires c κs =
+    let at-pre = c .before .before .before .before .before .before in
+    (at-pre .pre .0 .paired, there-known _ _ _ _ 0 (at-pre .pre .0) _ _ (c .before .before .start-at .ensures) (c .before .start-at2 .ensures))
 
 shown-by-requires : tie.Need-shown-by-requires
 shown-by-requires c κs = search needs
@@ -42,7 +44,12 @@ add-all : tie.Need-add-all
 add-all c = search needs
 
 returns : tie.Need-returns
-returns c = there-looks _ _ _ _ _ (c .before .before .before .before .before .before .before .before .before .pre .0) _ _ (c .before .before .before .before .before .start-at .ensures) (c .before .before .before .before .start-at2 .ensures) _ (c .before .before .look-at .ensures) _ (c .before .shown-by .ensures) _ (c .count .ensures)
+returns c =
+    let at-start-at = c .before .before .before .before in
+    let at-start-at-2 = at-start-at .before in
+    let at-pre = at-start-at-2 .before .before .before .before in
+    there-looks _ _ _ _ _ (at-pre .pre .0) _ _ (at-start-at-2 .start-at .ensures) (at-start-at .start-at2 .ensures) _ (c .before .before .look-at .ensures) _ (c .before .shown-by .ensures) _
+    (c .count .ensures)
 
 pub look-there-spec : {M : Type 1} → statement M
 look-there-spec =

@@ -20,7 +20,11 @@ enum-known-s : tie.Need-enum-known-s
 enum-known-s c = search needs
 
 force-requires : tie.Need-force-requires
-force-requires c κs = one-forcible _ _ _ _ _ _ _ _ _ (c .before .before .before .before .before .before .hint .ensures) _ (c .before .before .before .s .given .1) (c .before .before .before .before .before .before .before .before .before .before .before .before .pre .0) (c .before .before .before .before .before .before .before .before .before .before .before .before .pre .1 .0)
+force-requires c κs =
+    let at-s = c .before .before .before in
+    let at-hint = at-s .before .before .before in
+    let at-pre = at-hint .before .before .before .before .before .before in
+    one-forcible _ _ _ _ _ _ _ _ _ (at-hint .hint .ensures) _ (at-s .s .given .1) (at-pre .pre .0) (at-pre .pre .1 .0)
 
 enum-told-3 : tie.Need-enum-told-3
 enum-told-3 c = search needs
@@ -44,7 +48,11 @@ same-length-4 : tie.Need-same-length-4
 same-length-4 c = search needs
 
 returns-3 : tie.Need-returns-3
-returns-3 c = one-forces _ _ _ _ _ _ _ _ _ (c .before .before .before .before .before .before .before .before .before .before .before .hint .ensures) _ (c .before .before .before .before .before .before .before .before .s .given .1) _ _ _ _ _ (c .before .before .before .before .force .ensures)
+returns-3 c =
+    let at-force = c .before .before .before .before in
+    let at-s = at-force .before .before .before .before in
+    let at-hint = at-s .before .before .before in
+    one-forces _ _ _ _ _ _ _ _ _ (at-hint .hint .ensures) _ (at-s .s .given .1) _ _ _ _ _ (at-force .force .ensures)
 
 same-length-5 : tie.Need-same-length-5
 same-length-5 c = search needs

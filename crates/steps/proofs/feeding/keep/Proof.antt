@@ -29,7 +29,12 @@ same-length : tie.Need-same-length
 same-length c = search needs
 
 returns-3 : tie.Need-returns-3
-returns-3 c = keeps-stored _ _ _ _ _ (c .before .before .before .before .before .before .before .before .x .given .1) _ _ (c .before .before .before .before .before .before .cell .ensures) (c .before .before .before .before .before .if1 .left) (c .before .before .before .before .if2 .left) (c .before .before .push .ensures)
+returns-3 c =
+    let at-if = c .before .before .before .before in
+    let at-if-2 = at-if .before in
+    let at-cell = at-if-2 .before in
+    let at-x = at-cell .before .before in
+    keeps-stored _ _ _ _ _ (at-x .x .given .1) _ _ (at-cell .cell .ensures) (at-if-2 .if1 .left) (at-if .if2 .left) (c .before .before .push .ensures)
 
 returns-4 : tie.Need-returns-4
 returns-4 c = search needs
