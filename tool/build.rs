@@ -39,6 +39,8 @@ fn main() {
     let elsewhere = env::var_os("PROOFSCALE_LIB").filter(|folder| !folder.is_empty()).map(PathBuf::from);
     let folder = elsewhere.clone().unwrap_or_else(|| root.join("dist"));
     let archive = folder.join("libproofscale.a");
+    // What is told to cargo goes line by line.
+    assert!(!archive.display().to_string().contains(char::is_control), "PROOFSCALE_LIB has a control character");
     println!("cargo:rerun-if-env-changed=PROOFSCALE_LIB");
     println!("cargo:rerun-if-env-changed=PROOFSCALE_COMMIT");
     println!("cargo:rerun-if-changed={}", archive.display());
@@ -59,6 +61,12 @@ fn main() {
     }
     tell("PROOFSCALE_LIBRARY", &sum);
     tell("PROOFSCALE_COMMIT", &env::var("PROOFSCALE_COMMIT").unwrap_or_default());
-    println!("cargo:rustc-link-search=native={}", folder.display());
-    println!("cargo:rustc-link-lib=static=proofscale");
+    // Under a name of its own, with its sum, in cargo's folder: so no other folder that the linker is told of (RUSTFLAGS, a cargo
+    // configuration) can have one of that name.
+    let own = PathBuf::from(env::var_os("OUT_DIR").expect("cargo sets OUT_DIR"));
+    let copy = own.join(format!("libproofscale_{sum}.a"));
+    fs::copy(&archive, &copy).expect("the library has to be copied");
+    assert!(sha256(&copy) == sum, "the library changed while it was copied");
+    println!("cargo:rustc-link-search=native={}", own.display());
+    println!("cargo:rustc-link-lib=static=proofscale_{sum}");
 }

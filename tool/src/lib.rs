@@ -29,7 +29,9 @@ use std::panic;
 /// Does what the command line asks for, and returns the exit status.
 pub fn run(args: Vec<OsString>) -> u8 {
     panic::set_hook(Box::new(|fault| {
-        let what = fault.payload_as_str().unwrap_or("no reason is known");
+        let payload = fault.payload();
+        let owned = payload.downcast_ref::<String>().map(String::as_str);
+        let what = owned.or(payload.downcast_ref::<&str>().copied()).unwrap_or("no reason is known");
         let place = fault.location().map_or(String::new(), |at| format!(" ({at})"));
         output::complain(&format!("a fault of the tool itself, which is no answer: {what}{place}"));
     }));
