@@ -69,4 +69,5 @@ fn main() {
     assert!(sha256(&copy) == sum, "the library changed while it was copied");
     println!("cargo:rustc-link-search=native={}", own.display());
     println!("cargo:rustc-link-lib=static=proofscale_{sum}");
+    println!("cargo:rustc-link-arg-tests={}", copy.display());
 }

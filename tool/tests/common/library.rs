@@ -6,9 +6,7 @@
 use super::generate::Random;
 use super::reference::Verdict;
 
-// The path of the library comes from the package's build script; which library, the tests say themselves, so that they link it
-// whether or not they use the rest of the package.
-#[link(name = "proofscale", kind = "static")]
+// The package's build script hands the library to the linker for every test, whether or not it uses the rest of the package.
 extern "C" {
     fn proofscale_check(
         formula: *const u8,
