@@ -2,6 +2,7 @@
 // Whatever the verdict, the marks are left as they were. Nothing is promised of slices that hold no store, nor of what is left
 // on the tape. The turns of every loop, also of those of other crates, are counted, up to the greatest number, so that no
 // slice can be too long.
+#![tactic(auto)]
 ghost use Rattle.std.specs.Prelude.{◌≡◌, [], ◌+◌, ◌-◌, ◌/◌, ◌<◌, ◌≤◌, length, get_or};
 ghost use Rattle.clauses.specs.Store.{live_of};
 ghost use Rattle.assignment.specs.Marks.{Shows};
@@ -18,7 +19,7 @@ use judge::hints::How;
 // Why an addition is refused, with the id, the hint or the group at fault: the id is not fresh; K holds opposites; a hint is not
 // live; a hint is neither a conflict nor forces a literal; no conflict and K is empty; no conflict in the group of a clause;
 // the groups are not those that they must be.
-#[derive(Drop)]
+#[derive(Clone, Copy)]
 pub enum Ground {
     IdNotFresh(u64),
     OppositeLiterals,
@@ -30,7 +31,7 @@ pub enum Ground {
 }
 
 // What the judgement is, or that there was no room on the tape.
-#[derive(Drop)]
+#[derive(Clone, Copy)]
 pub enum Verdict {
     Accepted,
     Refused(Ground),
@@ -38,14 +39,14 @@ pub enum Verdict {
 }
 
 // The same, and the turns that it took.
-#[derive(Drop)]
+#[derive(Clone, Copy)]
 pub struct Judged {
     pub verdict: Verdict,
     pub turns: u64,
 }
 
 // The same where marks are left to be taken back, and how many numbers are on the tape then.
-#[derive(Drop)]
+#[derive(Clone, Copy)]
 struct Tried {
     verdict: Verdict,
     t: usize,

@@ -5,6 +5,7 @@
 // The work store comes in six parts, whose contents do not matter before and are not promised to mean anything after:
 // `heads` and `lits` (the clauses), `hints` (the hints or ids of one step), `guess` (where clauses probably are; it may have any
 // length, also 0), `marks` and `tape` (the assignment). specs/Promises.antt says how long each has to be.
+#![tactic(auto)]
 pub mod running;
 
 ghost use Rattle.std.specs.Prelude.{◌≡◌, ◌+◌, ◌%◌, ◌≤◌, length};
@@ -17,7 +18,7 @@ use running::Ended;
 use stepping::Between;
 
 // The answers of document 01, section 1.
-#[derive(Drop)]
+#[derive(Clone, Copy)]
 pub enum Answer {
     Verified { step: u64 },
     UnreadableFormula,
@@ -28,7 +29,7 @@ pub enum Answer {
 }
 
 // An answer, and the number of turns that the loops made for it.
-#[derive(Drop)]
+#[derive(Clone, Copy)]
 pub struct Checked {
     pub answer: Answer,
     pub turns: u64,

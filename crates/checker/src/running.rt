@@ -6,7 +6,7 @@ ghost use Rattle.checker.specs.Running.{stops_at, ended_by, onward_of, RunsTo, r
 use stepping::{Between, Outcome, Refusal};
 
 // How the run ended, with the number of the step; or that a part of the work store is too short. A refusal has its ground.
-#[derive(Drop)]
+#[derive(Clone, Copy)]
 pub enum Ended {
     Verified(u64),
     Unreadable(u64),
@@ -16,7 +16,7 @@ pub enum Ended {
 }
 
 // The same, and the turns that it took.
-#[derive(Drop)]
+#[derive(Clone, Copy)]
 pub struct Ran {
     pub ended: Ended,
     pub turns: u64,

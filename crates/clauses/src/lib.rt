@@ -1,6 +1,7 @@
 // The store of live clauses, in two slices that the caller lends: how a clause is added, found by its id and deleted, and how
 // deleted clauses give their room back. specs/Store.antt says which live clauses two slices hold. Nothing is promised of
 // slices that hold no store; that what a function leaves is a store again is said by laws in proofs/, not by its contract.
+#![tactic(auto)]
 ghost use Rattle.std.specs.Prelude.{◌≡◌, ◌+◌, ◌-◌, ◌*◌, ◌/◌, ◌%◌, ◌^◌, ◌<◌, ◌≤◌, min, length};
 ghost use Rattle.clauses.specs.Codes.{opposite_code};
 ghost use Rattle.clauses.specs.Counting.{Counts};
@@ -9,14 +10,14 @@ ghost use Rattle.clauses.specs.Finding.{Searchable, Peeked, FoundIn, turns_of, H
 ghost use Rattle.clauses.specs.Moving.{Stored, Moved, Movable, OneMoved, AllMoved};
 
 // The place of a live clause, or that there is none; and the turns that the search took.
-#[derive(Drop)]
+#[derive(Clone, Copy)]
 pub enum Found {
     At { place: usize, turns: u64 },
     Nowhere { turns: u64 },
 }
 
 // How many clauses and literals there are after the deleted ones went, and the turns that this took.
-#[derive(Drop)]
+#[derive(Clone, Copy)]
 pub struct Compacted {
     pub n: usize,
     pub used: usize,

@@ -1,6 +1,7 @@
 // Judging a deletion, document 01, section 5: the ids are taken in order, and each must be live. The clause that has an id is
 // looked up in the store of live clauses and marked as deleted. It and its literals keep their room until the store is compacted;
 // how much room that is, is counted here. Nothing is promised of heads that belong to no store.
+#![tactic(auto)]
 ghost use Rattle.std.specs.Prelude.{◌≡◌, ◌+◌, ◌-◌, ◌<◌, ◌≤◌, length};
 ghost use Rattle.clauses.specs.Store.{start_at, marked};
 ghost use Rattle.deletion.specs.Deleting.{Headed, Removable, Deletable, DeletesOne, Deletes};
@@ -9,7 +10,7 @@ use clauses::Found;
 
 // What a deletion came to: all ids were live; or this one was not. `dead` is one for each clause that was deleted before that and
 // one for each of its literals, and `turns` how many turns the loops made, up to the greatest count.
-#[derive(Drop)]
+#[derive(Clone, Copy)]
 pub enum Deleted {
     Done { dead: usize, turns: u64 },
     NotLive { id: u64, dead: usize, turns: u64 },

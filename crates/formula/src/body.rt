@@ -10,7 +10,7 @@ ghost use Rattle.formula.specs.Body.{item_of, ReadsClause, Closes, ReadsBody, gr
 use text::Token;
 
 // One token of a clause: a literal by its code, the 0 at its end, or neither.
-#[derive(Drop)]
+#[derive(Clone, Copy)]
 pub enum Item {
     Literal(u32),
     End,
@@ -51,7 +51,7 @@ pub fn push(lits: &mut [u32], at: usize, l: u32)
 }
 
 // Where reading a clause came to: the place behind its 0, or where it stopped; and the end of the literals that it stored.
-#[derive(Drop)]
+#[derive(Clone, Copy)]
 pub enum ClauseRead {
     Done { next: usize, end: usize },
     Unreadable { next: usize, end: usize },
@@ -93,7 +93,7 @@ pub fn read_clause(s: &[u8], at: usize, vars: u64, lits: &mut [u32], used: usize
 
 // Where reading the clauses came to: the place behind the last one, or where it stopped; how many literals were stored, and
 // how many clauses were closed.
-#[derive(Drop)]
+#[derive(Clone, Copy)]
 pub enum BodyRead {
     Done {
         next: usize,

@@ -3,6 +3,7 @@
 // The way of the data: `opening` passes the comment lines and reads the line `p cnf V C`; `body` reads the clauses; `writer`
 // (a crate of its own) writes them out. Room goes by what occurs in the text and not by what the header announces.
 // What is promised of unreadable bytes is only that they are found out, and of a store that is too short that it was.
+#![tactic(auto)]
 pub mod body;
 mod opening;
 
@@ -20,7 +21,7 @@ use writer::Fit;
 
 // What reading a formula came to. `Stored`: V, the number of clauses, how many literals they have, and the greatest variable
 // that occurs. Otherwise: the place in the text where it stopped, and what had been stored by then.
-#[derive(Drop)]
+#[derive(Clone, Copy)]
 pub enum FormulaRead {
     Stored {
         vars: u64,
@@ -145,7 +146,7 @@ pub fn read(formula: &[u8], heads: &mut [u32], lits: &mut [u32]) -> FormulaRead
 }
 
 // What writing a formula came to: how many bytes were written; or why nothing was.
-#[derive(Drop)]
+#[derive(Clone, Copy)]
 pub enum FormulaWritten {
     Whole { length: usize },
     Unreadable { at: usize },

@@ -57,7 +57,7 @@ pub fn first(s: &[u8], at: usize, x: u8) -> usize
 }
 
 // A number from 0 on, or none.
-#[derive(Drop)]
+#[derive(Clone, Copy)]
 pub enum Count {
     Of(u64),
     Wrong,
@@ -128,7 +128,7 @@ fn prefixed(line: &[u8]) -> bool
 }
 
 // V and C, or that the line is none that announces a formula.
-#[derive(Drop)]
+#[derive(Clone, Copy)]
 pub enum Header {
     Of { vars: u64, clauses: u64 },
     Wrong,

@@ -1,5 +1,6 @@
 // A program for the gate: reads each formula that its arguments name, says what it found, and writes it out. What it prints is
 // held to the file `stdout`.
+#![tactic(auto)]
 use formula::{FormulaRead, FormulaWritten};
 use libc::STDOUT_FILENO;
 

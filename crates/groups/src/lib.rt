@@ -1,6 +1,7 @@
 // Rule 4 of document 01, section 5, its first part: the groups of hints begin with exactly the ids of the live clauses that
 // contain the opposite of p, each once, in increasing order. One walk over the store and over the hints finds that out. What the
 // hints of a group do is not judged here, and nothing is promised of slices that hold no store.
+#![tactic(auto)]
 ghost use Rattle.std.specs.Prelude.{◌≡◌, ◌||◌, map, ◌+◌, ◌-◌, ◌/◌, ◌<◌, ◌≤◌, ◌^◌, eqb, length};
 ghost use Rattle.rules.specs.Judging.{among};
 ghost use Rattle.clauses.specs.Codes.{literal_of};
@@ -9,21 +10,21 @@ ghost use Rattle.clauses.specs.Store.{Placed};
 ghost use Rattle.groups.specs.Matching.{NextGroup, GroupAt, Examined, TakesGroup, literals_at, Passes, Finishes, Matches};
 
 // Whether the groups are those that they must be; if not, the id at fault. And the turns that it took to find out.
-#[derive(Drop)]
+#[derive(Clone, Copy)]
 pub enum Matched {
     All { turns: u64 },
     Differ { id: u64, turns: u64 },
 }
 
 // What one clause came to: the walk goes on, with the next group at this place; or the groups differ.
-#[derive(Drop)]
+#[derive(Clone, Copy)]
 enum Passed {
     On { at: usize, turns: u64 },
     Differs { id: u64, turns: u64 },
 }
 
 // Whether a clause is live and contains a literal, and how many literals were looked at.
-#[derive(Drop)]
+#[derive(Clone, Copy)]
 struct Candidate {
     has: bool,
     literals: u64,

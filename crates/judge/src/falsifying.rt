@@ -11,7 +11,7 @@ ghost use Rattle.judge.specs.Falsifying.{FalsifiesOne, ends_at, FalsifiesOthers,
 
 // What making literals false came to: they are false; one of them is true, or was made true by its opposite; or there is no
 // room on the tape.
-#[derive(Drop)]
+#[derive(Clone, Copy)]
 pub enum Falsity {
     AllFalse,
     SomeTrue,
@@ -19,14 +19,14 @@ pub enum Falsity {
 }
 
 // The same for one literal, and how many numbers are on the tape then.
-#[derive(Drop)]
+#[derive(Clone, Copy)]
 pub struct Fell {
     pub falsity: Falsity,
     pub t: usize,
 }
 
 // The same for a clause, and how many literals were passed.
-#[derive(Drop)]
+#[derive(Clone, Copy)]
 pub struct Falsified {
     pub falsity: Falsity,
     pub t: usize,

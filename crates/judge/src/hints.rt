@@ -15,7 +15,7 @@ use assignment::Look;
 use clauses::Found;
 
 // What a hint shows: its clause is not live; all its literals are false; all but one that has no value; or neither.
-#[derive(Drop)]
+#[derive(Clone, Copy)]
 pub enum Shown {
     NotLive,
     AllFalse,
@@ -24,7 +24,7 @@ pub enum Shown {
 }
 
 // The same, and the turns that it took to see it.
-#[derive(Drop)]
+#[derive(Clone, Copy)]
 pub struct Hinted {
     pub shown: Shown,
     pub turns: u64,
@@ -77,7 +77,7 @@ pub fn hint(heads: &[u32], n: usize, place: usize, lits: &[u32], marks: &[u8], i
 
 // What taking one hint came to: a literal is true from now on; a conflict; its clause is not live, or neither forces a literal
 // nor is a conflict; or there is no room on the tape for what it forces.
-#[derive(Drop)]
+#[derive(Clone, Copy)]
 pub enum Effect {
     Forced,
     Conflict,
@@ -87,7 +87,7 @@ pub enum Effect {
 }
 
 // The same, how many numbers are on the tape then, and the turns that it took.
-#[derive(Drop)]
+#[derive(Clone, Copy)]
 pub struct Took {
     pub effect: Effect,
     pub t: usize,
@@ -157,7 +157,7 @@ fn take_one(
 
 // What taking hints one by one came to: a conflict; a hint whose clause is not live, or that neither forces a literal nor is a
 // conflict; the hints' end, with no conflict; or no room on the tape.
-#[derive(Drop)]
+#[derive(Clone, Copy)]
 pub enum How {
     Conflict,
     NotLive(u64),
@@ -167,7 +167,7 @@ pub enum How {
 }
 
 // The same, how many numbers are on the tape then, and the turns that it took.
-#[derive(Drop)]
+#[derive(Clone, Copy)]
 pub struct Taken {
     pub how: How,
     pub t: usize,

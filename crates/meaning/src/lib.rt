@@ -2,3 +2,4 @@
 //
 // The theorems of `proofs/` say that the definitions mean what a reader takes them to mean. There is no code here, and
 // nothing here knows of proofs, of bytes or of the checker.
+#![tactic(auto)]

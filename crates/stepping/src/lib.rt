@@ -6,6 +6,7 @@
 // reading, one for each byte passed and one for each token; then what judging and giving room back took. A step that is not
 // read to its end is charged twice for each byte that is left, since the word at fault is looked at twice.
 // What a refused or unreadable step leaves in the work store is not promised to mean anything.
+#![tactic(auto)]
 ghost use Rattle.std.specs.Prelude.{◌≡◌, ◌+◌, ◌-◌, ◌*◌, ◌<◌, ◌≤◌, ◌^◌, length};
 ghost use Rattle.clauses.specs.Store.{RoomFor};
 ghost use Rattle.addition.specs.Addition.{all_turns};
@@ -17,7 +18,7 @@ use steps::StepRead;
 
 // What is known between two steps: how many clauses the store has, live or deleted; how many literals; the greatest of C and
 // the ids added so far; and how much of the store belongs to deleted clauses, one for each clause and one for each literal.
-#[derive(Drop)]
+#[derive(Clone, Copy)]
 pub struct Between {
     pub n: usize,
     pub used: usize,
@@ -26,7 +27,7 @@ pub struct Between {
 }
 
 // Why a step is refused: the ground of an addition's refusal; or the id of a deletion that is not live.
-#[derive(Drop)]
+#[derive(Clone, Copy)]
 pub enum Refusal {
     Addition(Ground),
     Deletion(u64),
@@ -34,7 +35,7 @@ pub enum Refusal {
 
 // What a step comes to: the proof goes on; the empty clause was added; the step is refused; a part of the work store is too
 // short; the step is unreadable; or there is no step left.
-#[derive(Drop)]
+#[derive(Clone, Copy)]
 pub enum Outcome {
     On(Between),
     Verified,
@@ -45,14 +46,14 @@ pub enum Outcome {
 }
 
 // The same, and the turns that it took.
-#[derive(Drop)]
+#[derive(Clone, Copy)]
 pub struct Stepped {
     pub outcome: Outcome,
     pub turns: u64,
 }
 
 // The same, and the place behind the step.
-#[derive(Drop)]
+#[derive(Clone, Copy)]
 pub struct Taken {
     pub outcome: Outcome,
     pub next: usize,
@@ -60,7 +61,7 @@ pub struct Taken {
 }
 
 // What is known after room was given back, and the turns that it took.
-#[derive(Drop)]
+#[derive(Clone, Copy)]
 struct Returned {
     between: Between,
     turns: u64,

@@ -15,7 +15,7 @@ use formula::body::Item;
 use text::Token;
 
 // What is known of a step: nothing; its id; literals; hints; ids to delete.
-#[derive(Drop)]
+#[derive(Clone, Copy)]
 pub enum Kind {
     Start,
     Body,
@@ -25,7 +25,7 @@ pub enum Kind {
 }
 
 // Where the reader of a step stands: its kind, the id, the place for the next literal and the place for the next hint.
-#[derive(Drop)]
+#[derive(Clone, Copy)]
 pub struct Phase {
     pub kind: Kind,
     pub id: u64,
@@ -34,7 +34,7 @@ pub struct Phase {
 }
 
 // What a token came to.
-#[derive(Drop)]
+#[derive(Clone, Copy)]
 pub enum Fed {
     More(Phase),
     Addition { id: u64, end: usize, many: usize },
@@ -44,7 +44,7 @@ pub enum Fed {
 }
 
 // What storing an item came to.
-#[derive(Drop)]
+#[derive(Clone, Copy)]
 pub enum Kept {
     Stored,
     Ended,

@@ -10,6 +10,7 @@
 // two tokens more than there are codes, where it stopped), one more where it stopped or nothing was left, and the bytes passed
 // for the leaves below. The look that ends `along` moves nothing on and is no turn; there is at most one for each token that is
 // fed.
+#![tactic(auto)]
 pub mod feeding;
 
 ghost use Rattle.std.specs.Prelude.{◌≡◌, ◌<◌, ◌≤◌, ◌^◌, length};
@@ -19,7 +20,7 @@ use feeding::{Fed, Kind, Phase};
 use text::Token;
 
 // What reading a step came to, and the place behind it; or the place where it stopped, and what had been stored by then.
-#[derive(Drop)]
+#[derive(Clone, Copy)]
 pub enum StepRead {
     Addition {
         id: u64,
@@ -82,7 +83,7 @@ fn unread(t: Token, at: usize, i: usize, next: usize, end: usize, many: usize) -
 }
 
 // How far numbers were taken: the place behind the last one in the text, and in the slice.
-#[derive(Drop)]
+#[derive(Clone, Copy)]
 struct Passed {
     next: usize,
     end: usize,
@@ -115,7 +116,7 @@ fn along(s: &[u8], from: usize, first: usize, limit: u64, slots: &mut [u32]) -> 
 }
 
 // Where a reader stands, and at which place.
-#[derive(Drop)]
+#[derive(Clone, Copy)]
 struct Onward {
     phase: Phase,
     next: usize,

@@ -1,6 +1,6 @@
 -- For callers of `token_at`: what it found is the next token of the text from there on, and its number passes the same tests.
 -- Assumes nothing.
-use Rattle.std.proofs.Common.{◌≡◌, ℕ, ◌+◌, ◌-◌, ◌<◌, ◌≤◌, min, true, false, leb, List, [], ◌∷◌, length, drop, refl, ap, ◌∙◌, arith, length-drop, drop-drop, le-leb, leb-false, leb-true}
+use Rattle.std.proofs.Common.{◌≡◌, ℕ, ◌+◌, ◌<◌, ◌≤◌, min, true, false, leb, List, [], ◌∷◌, length, drop, refl, ap, ◌∙◌, arith, length-drop, drop-drop, le-leb, leb-false, leb-true}
 use borrow.Author.Tests.{lt-leb}
 use Rattle.meaning.proofs.Truth.{bool_cases}
 use Rattle.rules.specs.Text.{is_blank, Token, Proper, nought, plus, minus, letter_d, other, token, word, words_from, tokens}

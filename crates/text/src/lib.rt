@@ -5,12 +5,14 @@
 //
 // Every loop here moves one byte on with each turn, so the turns are the bytes passed: `next - at`, and for a word that is no
 // number up to twice that, since its end is looked for from its beginning. `short_at` and what it calls have no loop.
+#![tactic(auto)]
+
 ghost use Rattle.std.specs.Prelude.{◌≡◌, ◌+◌, ◌*◌, ◌<◌, ◌≤◌, false, length, drop, slice_index};
 ghost use Rattle.rules.specs.Text.{is_blank, word};
 ghost use Rattle.text.specs.Scan.{most, blanks, ends_word, Stops, Numbered, Ran, Positive, OneByte, Plain, Guessing, Wording, Scans, is_other, AboveNought, Sign, Bytes, MovedUp, EachAtMost, Tells, said, Short};
 
 // A token. A number is given by its size, at most 10^18. `Nothing` is the end of the text.
-#[derive(Drop)]
+#[derive(Clone, Copy)]
 pub enum Token {
     Nought,
     Plus(u64),
@@ -21,14 +23,14 @@ pub enum Token {
 }
 
 // A token and the place behind it.
-#[derive(Drop)]
+#[derive(Clone, Copy)]
 pub struct Scanned {
     pub token: Token,
     pub next: usize,
 }
 
 // A number and the place behind its digits; 0 for none, and then the place says nothing.
-#[derive(Drop)]
+#[derive(Clone, Copy)]
 pub struct Number {
     pub value: u64,
     pub next: usize,

@@ -4,6 +4,7 @@
 //
 // The cases s6-* and s7-* are those of document 01's sections 6 and 7. The answers in data/ come from a checker that was written
 // from the document and docs/DECISIONS.md, in another language; they are for a store that is long enough.
+#![tactic(auto)]
 ghost use Rattle.io.specs.Counts.{IsPrefixLen};
 
 use checker::Answer;

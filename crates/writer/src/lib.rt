@@ -8,6 +8,7 @@
 //
 // The turns of the loops are counted. A number of d digits counts as 2d of them where it is written, since `digits_in` and
 // `write_last_digits` make fewer than d turns each, and as d of them where only its length is asked.
+#![tactic(auto)]
 ghost use Rattle.std.specs.Prelude.{◌≡◌, ◌∷◌, [], map, ◌+◌, ◌*◌, ◌<◌, ◌≤◌, ◌^◌, length};
 ghost use Rattle.rules.specs.Written.{decimal, write_literal, write_clause, write_clauses};
 ghost use Rattle.clauses.specs.Codes.{literal_of};
@@ -15,21 +16,21 @@ ghost use Rattle.clauses.specs.Store.{Placed, clause_at, clauses_of};
 ghost use Rattle.writer.specs.Text.{Sized, Room, Wrote, Filled, Formed, line_start, first_line, formula_of, length_of, WroteCounted, WroteFormula, Measured, LineDigits, Answers};
 
 // Where a text ends that was written, and how many turns the loops made that wrote it.
-#[derive(Drop)]
+#[derive(Clone, Copy)]
 pub struct Written {
     pub end: usize,
     pub turns: u64,
 }
 
 // A length, as far as it was summed up, and how many turns that took.
-#[derive(Drop)]
+#[derive(Clone, Copy)]
 struct Sum {
     total: usize,
     turns: u64,
 }
 
 // Whether a formula fits into the room that there is.
-#[derive(Drop)]
+#[derive(Clone, Copy)]
 pub enum Fit {
     Whole { length: usize, turns: u64 },
     TooLong { turns: u64 },
