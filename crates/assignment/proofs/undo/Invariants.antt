@@ -1,0 +1,11 @@
+-- `assignment::undo` meets its contract. The loop's invariant: the marks differ from what they were only at the numbers on
+-- the tape from i on (`Undoing`). The measure is what is left of the tape. Assumes nothing.
+use Prim.Native.Nat.{◌-◌}
+use Rattle.assignment.proofs.Marking.{Undoing}
+use Rattle.assignment.proofs.undo.Given as goal
+
+abbrev pub invariant-loop-i : goal.invariant-loop-i
+invariant-loop-i l = Undoing l.initial.marks l.tape l.from l.to l.marks l.i l.turns
+
+abbrev pub decreases-loop-i : goal.decreases-loop-i
+decreases-loop-i l = l.to - l.i
