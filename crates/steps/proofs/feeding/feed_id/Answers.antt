@@ -1,0 +1,25 @@
+-- `feeding::feed_id` meets its contract: an id to delete, or the 0 behind the ids. Assumes nothing.
+use mathlib.Core.Path.{refl}
+use native.Mathlib.Omega.{arith}
+use Rattle.steps.specs.Feeding.{id_fed}
+use Rattle.steps.proofs.Coding.{keeps_room, fed_by}
+use Rattle.steps.proofs.feeding.feed_id.Goals as goal
+
+pub overflow_add-result : goal.overflow_add-result
+overflow_add-result c = omega (arith, keeps_room _ _ _ _ _ _ c.keep-kept.ensures c.in-Stored.is)
+
+pub returns-in-Stored : goal.returns-in-Stored
+unfolding id_fed
+returns-in-Stored c = fed_by _ _ _ _ _ _ _ _ c.id_item-x.ensures c.keep-kept.ensures c.in-Stored.is _ _ refl
+
+pub returns-in-Ended : goal.returns-in-Ended
+unfolding id_fed
+returns-in-Ended c = fed_by _ _ _ _ _ _ _ _ c.id_item-x.ensures c.keep-kept.ensures c.in-Ended.is _ _ refl
+
+pub returns-in-Refused : goal.returns-in-Refused
+unfolding id_fed
+returns-in-Refused c = fed_by _ _ _ _ _ _ _ _ c.id_item-x.ensures c.keep-kept.ensures c.in-Refused.is _ _ refl
+
+pub returns-in-Full : goal.returns-in-Full
+unfolding id_fed
+returns-in-Full c = fed_by _ _ _ _ _ _ _ _ c.id_item-x.ensures c.keep-kept.ensures c.in-Full.is _ _ refl
