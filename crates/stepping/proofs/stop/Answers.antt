@@ -1,0 +1,8 @@
+-- `stop` meets its contract. Assumes nothing.
+use mathlib.Core.Path.{refl}
+use Rattle.stepping.proofs.Spending.{spent_most}
+use native.Mathlib.Omega.{arith}
+use Rattle.stepping.proofs.stop.Goals as goal
+
+pub returns : goal.returns
+returns c = record { outcome = refl; next = refl; turns = spent_most _ _ _ _ _ (omega (arith, c.count.ensures)) c.reading_and-turns.ensures }
