@@ -80,11 +80,11 @@ greatest_stands (x ∷ y ∷ xs) h =
     (cut x (greatest (y ∷ xs)))
 
 -- By the answer.
-pub has_no : (marks used top : ℕ) (r : Bool) → HasMarks marks used top r → not r ≡ true → HasMarks marks used top false
-has_no marks used top r h e = rw (not-true r e) at h
+pub has_no : (marks used top : ℕ) (r : Bool) → HasMarks marks used top r → r ≡ false → HasMarks marks used top false
+has_no marks used top r h e = rw e at h
 
-pub has_all : (marks used top : ℕ) (r : Bool) → HasMarks marks used top r → not r ≡ false → HasMarks marks used top true
-has_all marks used top r h e = rw (not-false r e) at h
+pub has_all : (marks used top : ℕ) (r : Bool) → HasMarks marks used top r → r ≡ true → HasMarks marks used top true
+has_all marks used top r h e = rw e at h
 
 -- The greatest variable has no mark.
 pub no_mark : (heads lits : List ℕ) (n used top cells : ℕ) → top ≡ greatest (take used lits) / 2 → HasMarks cells used top false
