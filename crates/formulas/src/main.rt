@@ -1,118 +1,103 @@
 // A program for the gate: reads each formula that its arguments name, says what it found, and writes it out. What it prints is
 // held to the file `stdout`.
 #![tactic(auto)]
+
+ghost use Rattle.std.specs.Prelude.{◌≤◌, length, IfOk};
+
 use formula::{FormulaRead, FormulaWritten};
-use libc::STDOUT_FILENO;
+use std::fs::File;
+use std::io::{Read, Write};
+use std::{env, io};
 
-fn say(text: &[u8]) {
-    io::write_all(STDOUT_FILENO, text);
-}
-
-fn say_number(n: u64) {
-    say(b" ");
-    io::print_decimal(STDOUT_FILENO, n);
-}
-
-fn wide(x: u32) -> u64 {
-    x as u64
-}
-
-fn show_read(r: FormulaRead) {
+fn show_read(rt: &HostRuntime, r: FormulaRead) -> io::Result<()> {
     match r {
         FormulaRead::Stored {
             vars,
             clauses,
             used,
             top,
-        } => {
-            say(b": stored, V C literals greatest");
-            say_number(vars);
-            say_number(clauses::count(clauses));
-            say_number(clauses::count(used));
-            say_number(wide(top));
-        }
-        FormulaRead::Unreadable { at, used, closed } => {
-            say(b": unreadable from byte");
-            say_number(clauses::count(at));
-        }
-        FormulaRead::TooShort { at, used, closed } => {
-            say(b": store too short at byte");
-            say_number(clauses::count(at));
-        }
+        } => println!(rt; ": stored, V C literals greatest {vars} {clauses} {used} {top}"),
+        FormulaRead::Unreadable { at, .. } => println!(rt; ": unreadable from byte {at}"),
+        FormulaRead::TooShort { at, .. } => println!(rt; ": store too short at byte {at}"),
     }
-    say(b"\n");
 }
 
-fn show_text(length: usize, out: &[u8]) {
+fn show_text(rt: &HostRuntime, length: usize, out: &[u8]) -> io::Result<()> {
     if out.len() < length {
-        return;
+        return Ok(());
     }
-    say(&out[..length]);
+    let mut to = io::writer(rt);
+    to.write_all(&out[..length])
 }
 
 // Nothing was written, and the output was empty before.
-fn show_short(out: &[u8]) {
+fn show_short(rt: &HostRuntime, out: &[u8]) -> io::Result<()> {
     if out.len() == 0 {
-        return;
+        return Ok(());
     }
     if out[0] != 0 {
-        say(b"(output touched)\n");
-        return;
+        return println!(rt; "(output touched)");
     }
-    say(b"(output too short)\n");
+    println!(rt; "(output too short)")
 }
 
-fn show_written(w: FormulaWritten, out: &[u8]) {
+fn show_written(rt: &HostRuntime, w: FormulaWritten, out: &[u8]) -> io::Result<()> {
     match w {
-        FormulaWritten::Whole { length } => show_text(length, out),
-        FormulaWritten::Unreadable { at } => say(b"(unreadable)\n"),
-        FormulaWritten::StoreTooShort { at } => say(b"(store too short)\n"),
-        FormulaWritten::OutputTooShort => show_short(out),
+        FormulaWritten::Whole { length } => show_text(rt, length, out),
+        FormulaWritten::Unreadable { .. } => println!(rt; "(unreadable)"),
+        FormulaWritten::StoreTooShort { .. } => println!(rt; "(store too short)"),
+        FormulaWritten::OutputTooShort => show_short(rt, out),
     }
 }
 
 // With a store and an output that always do for a file of 4,096 bytes.
-fn with_room(text: &[u8]) {
+fn with_room(rt: &HostRuntime, text: &[u8]) -> io::Result<()> {
     let mut heads = [0u32; 6150];
     let mut lits = [0u32; 2050];
     let mut out = [0u8; 4200];
-    show_read(formula::read(text, &mut heads, &mut lits));
+    show_read(rt, formula::read(text, &mut heads, &mut lits))?;
     let w = formula::write(text, &mut heads, &mut lits, &mut out);
-    show_written(w, &out);
+    show_written(rt, w, &out)
 }
 
 // With little of both: three clauses, six literals, thirty bytes.
-fn with_little(text: &[u8]) {
+fn with_little(rt: &HostRuntime, text: &[u8]) -> io::Result<()> {
     let mut heads = [0u32; 12];
     let mut lits = [0u32; 6];
     let mut out = [0u8; 30];
-    say(b"with little room");
-    show_read(formula::read(text, &mut heads, &mut lits));
+    print!(rt; "with little room")?;
+    show_read(rt, formula::read(text, &mut heads, &mut lits))?;
     let w = formula::write(text, &mut heads, &mut lits, &mut out);
-    show_written(w, &out);
+    show_written(rt, w, &out)
 }
 
-fn one(i: usize) {
-    let mut path = io::buffer();
-    let m = os::arg(i, &mut path);
-    let fd = os::open_read(&path[..m]);
-    if fd < 0 {
-        os::fail(&path[..m]);
-        return;
+// Puts the file, or as much of it as there is room for, at the front of `text`, and returns how many bytes that is.
+fn read_full(file: &mut File, text: &mut [u8]) -> io::Result<usize>
+    ensures { IfOk result (λ n. n ≤ length text.new) }
+{
+    let mut n = 0;
+    while n < text.len() {
+        let more = file.read(&mut text[n..])?;
+        if more == 0 {
+            break;
+        }
+        n += more;
     }
-    let mut text = io::buffer();
-    let n = io::read_full(fd, &mut text);
-    libc::close(fd);
-    say(&path[..m]);
-    with_room(&text[..n]);
-    with_little(&text[..n]);
+    Ok(n)
 }
 
-fn main() {
-    let n = os::arg_count();
-    let mut i = 1;
-    while i < n {
-        one(i);
-        i += 1;
+fn one(rt: &HostRuntime, path: &str) -> io::Result<()> {
+    let mut file = File::open(rt, path)?;
+    let mut text = [0u8; 4096];
+    let n = read_full(&mut file, &mut text)?;
+    print!(rt; "{path}")?;
+    with_room(rt, &text[..n])?;
+    with_little(rt, &text[..n])
+}
+
+fn main(rt: HostRuntime) -> io::Result<()> {
+    for path in env::args(&rt)?.skip(1) {
+        one(&rt, path.as_str())?;
     }
+    Ok(())
 }

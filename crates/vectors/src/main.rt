@@ -5,77 +5,48 @@
 // The cases s6-* and s7-* are those of document 01's sections 6 and 7. The answers in data/ come from a checker that was written
 // from the document and docs/DECISIONS.md, in another language; they are for a store that is long enough.
 #![tactic(auto)]
-ghost use Rattle.io.specs.Counts.{IsPrefixLen};
+
+ghost use Rattle.std.specs.Prelude.{◌≤◌, length, IfOk};
 
 use checker::Answer;
-use libc::STDOUT_FILENO;
-
-fn say(text: &[u8]) {
-    io::write_all(STDOUT_FILENO, text);
-}
-
-// Puts text behind the first n bytes of out, as far as there is room, and returns how many bytes there are then.
-fn append(out: &mut [u8], n: usize, text: &[u8]) -> usize
-    ensures { IsPrefixLen result out.new }
-{
-    if out.len() < n {
-        return 0;
-    }
-    let mut end = n;
-    let mut i = 0;
-    while i < text.len() {
-        if end >= out.len() {
-            break;
-        }
-        out[end] = text[i];
-        end += 1;
-        i += 1;
-    }
-    end
-}
+use std::fs::File;
+use std::io::{Read, Write};
+use std::{env, io};
 
 // Whether the answer with this number and this step is written as expected.
-fn is_expected(number: &[u8], step: u64, expected: &[u8]) -> bool {
-    let mut digits = [0u8; 20];
-    let k = io::decimal(step, &mut digits);
-    let mut text = [0u8; 40];
-    let mut n = append(&mut text, 0, number);
-    n = append(&mut text, n, b" ");
-    n = append(&mut text, n, &digits[..k]);
-    n = append(&mut text, n, b"\n");
-    check::same(&text[..n], expected)
+fn is_expected(rt: &HostRuntime, number: u64, step: u64, expected: &[u8]) -> io::Result<bool> {
+    let text = format!(in rt.alloc(); "{number} {step}\n")?;
+    Ok(text.as_bytes() == expected)
 }
 
-fn say_whether(good: bool, expected: &[u8]) {
+fn say_whether(rt: &HostRuntime, good: bool, expected: &[u8]) -> io::Result<()> {
     if good {
-        say(b", as expected\n");
-        return;
+        return println!(rt; ", as expected");
     }
-    say(b", DIFFERS from ");
-    say(expected);
+    print!(rt; ", DIFFERS from ")?;
+    let mut to = io::writer(rt);
+    to.write_all(expected)
 }
 
-fn say_step(number: &[u8], step: u64, expected: &[u8]) {
-    say(b": answer ");
-    say(number);
-    say(b" step ");
-    io::print_decimal(STDOUT_FILENO, step);
-    say_whether(is_expected(number, step, expected), expected);
+fn say_step(rt: &HostRuntime, number: u64, step: u64, expected: &[u8]) -> io::Result<()> {
+    print!(rt; ": answer {number} step {step}")?;
+    let good = is_expected(rt, number, step, expected)?;
+    say_whether(rt, good, expected)
 }
 
-fn say_unreadable(expected: &[u8]) {
-    say(b": answer 1");
-    say_whether(check::same(b"1\n", expected), expected);
+fn say_unreadable(rt: &HostRuntime, expected: &[u8]) -> io::Result<()> {
+    print!(rt; ": answer 1")?;
+    say_whether(rt, expected == b"1\n".as_slice(), expected)
 }
 
-fn show(a: Answer, expected: &[u8]) {
+fn show(rt: &HostRuntime, a: Answer, expected: &[u8]) -> io::Result<()> {
     match a {
-        Answer::Verified { step } => say_step(b"0", step, expected),
-        Answer::UnreadableFormula => say_unreadable(expected),
-        Answer::UnreadableStep { step } => say_step(b"2", step, expected),
-        Answer::Refused { step } => say_step(b"3", step, expected),
-        Answer::Unfinished { steps } => say_step(b"4", steps, expected),
-        Answer::TooShort => say(b": answer 5\n"),
+        Answer::Verified { step } => say_step(rt, 0, step, expected),
+        Answer::UnreadableFormula => say_unreadable(rt, expected),
+        Answer::UnreadableStep { step } => say_step(rt, 2, step, expected),
+        Answer::Refused { step } => say_step(rt, 3, step, expected),
+        Answer::Unfinished { steps } => say_step(rt, 4, steps, expected),
+        Answer::TooShort => println!(rt; ": answer 5"),
     }
 }
 
@@ -91,14 +62,16 @@ fn step_of(a: Answer) -> u64 {
 }
 
 // A step takes a turn at least.
-fn say_turns(step: u64, turns: u64) {
+fn say_turns(rt: &HostRuntime, step: u64, turns: u64) -> io::Result<()> {
     if turns < step {
-        say(b"    DIFFERS: fewer turns than steps\n");
+        return println!(rt; "    DIFFERS: fewer turns than steps");
     }
+    Ok(())
 }
 
 // Checks with this store, and says what came of it.
 fn checked(
+    rt: &HostRuntime,
     formula: &[u8],
     proof: &[u8],
     expected: &[u8],
@@ -108,16 +81,16 @@ fn checked(
     guess: &mut [u32],
     marks: &mut [u8],
     tape: &mut [u32],
-) {
+) -> io::Result<()> {
     let r = checker::check(formula, proof, heads, lits, hints, guess, marks, tape);
     let a = r.answer;
-    show(a, expected);
-    say_turns(step_of(a), r.turns);
+    show(rt, a, expected)?;
+    say_turns(rt, step_of(a), r.turns)
 }
 
 // With a store that always does for two files of 4,096 bytes each with variables up to 2,047. What is in it before does not
 // matter.
-fn with_room(formula: &[u8], proof: &[u8], expected: &[u8]) {
+fn with_room(rt: &HostRuntime, formula: &[u8], proof: &[u8], expected: &[u8]) -> io::Result<()> {
     let mut heads = [4294967295u32; 12450];
     let mut lits = [1u32; 4200];
     let mut hints = [4294967295u32; 2100];
@@ -125,28 +98,28 @@ fn with_room(formula: &[u8], proof: &[u8], expected: &[u8]) {
     let mut marks = [255u8; 4096];
     let mut tape = [3u32; 8300];
     checked(
-        formula, proof, expected, &mut heads, &mut lits, &mut hints, &mut guess, &mut marks,
+        rt, formula, proof, expected, &mut heads, &mut lits, &mut hints, &mut guess, &mut marks,
         &mut tape,
-    );
+    )
 }
 
 // With a store for two dozen short clauses with variables up to 9.
-fn with_little(formula: &[u8], proof: &[u8], expected: &[u8]) {
+fn with_little(rt: &HostRuntime, formula: &[u8], proof: &[u8], expected: &[u8]) -> io::Result<()> {
     let mut heads = [0u32; 78];
     let mut lits = [0u32; 64];
     let mut hints = [0u32; 24];
     let mut guess = [0u32; 5];
     let mut marks = [0u8; 20];
     let mut tape = [0u32; 64];
-    say(b"    with little room");
+    print!(rt; "    with little room")?;
     checked(
-        formula, proof, expected, &mut heads, &mut lits, &mut hints, &mut guess, &mut marks,
+        rt, formula, proof, expected, &mut heads, &mut lits, &mut hints, &mut guess, &mut marks,
         &mut tape,
-    );
+    )
 }
 
 // With a store of which one part after the other is short.
-fn with_parts(formula: &[u8], proof: &[u8], expected: &[u8]) {
+fn with_parts(rt: &HostRuntime, formula: &[u8], proof: &[u8], expected: &[u8]) -> io::Result<()> {
     let mut heads = [0u32; 78];
     let mut lits = [0u32; 64];
     let mut hints = [0u32; 24];
@@ -159,8 +132,9 @@ fn with_parts(formula: &[u8], proof: &[u8], expected: &[u8]) {
     let mut few_guesses = [0u32; 0];
     let mut few_marks = [0u8; 9];
     let mut few_noted = [0u32; 2];
-    say(b"with few heads");
+    print!(rt; "with few heads")?;
     checked(
+        rt,
         formula,
         proof,
         expected,
@@ -170,9 +144,10 @@ fn with_parts(formula: &[u8], proof: &[u8], expected: &[u8]) {
         &mut guess,
         &mut marks,
         &mut tape,
-    );
-    say(b"with few literals");
+    )?;
+    print!(rt; "with few literals")?;
     checked(
+        rt,
         formula,
         proof,
         expected,
@@ -182,9 +157,10 @@ fn with_parts(formula: &[u8], proof: &[u8], expected: &[u8]) {
         &mut guess,
         &mut marks,
         &mut tape,
-    );
-    say(b"with few hints");
+    )?;
+    print!(rt; "with few hints")?;
     checked(
+        rt,
         formula,
         proof,
         expected,
@@ -194,9 +170,10 @@ fn with_parts(formula: &[u8], proof: &[u8], expected: &[u8]) {
         &mut guess,
         &mut marks,
         &mut tape,
-    );
-    say(b"with no guesses");
+    )?;
+    print!(rt; "with no guesses")?;
     checked(
+        rt,
         formula,
         proof,
         expected,
@@ -206,9 +183,10 @@ fn with_parts(formula: &[u8], proof: &[u8], expected: &[u8]) {
         &mut few_guesses,
         &mut marks,
         &mut tape,
-    );
-    say(b"with few marks");
+    )?;
+    print!(rt; "with few marks")?;
     checked(
+        rt,
         formula,
         proof,
         expected,
@@ -218,9 +196,10 @@ fn with_parts(formula: &[u8], proof: &[u8], expected: &[u8]) {
         &mut guess,
         &mut few_marks,
         &mut tape,
-    );
-    say(b"with a short tape");
+    )?;
+    print!(rt; "with a short tape")?;
     checked(
+        rt,
         formula,
         proof,
         expected,
@@ -230,60 +209,60 @@ fn with_parts(formula: &[u8], proof: &[u8], expected: &[u8]) {
         &mut guess,
         &mut marks,
         &mut few_noted,
-    );
-    say(b"with all of it");
+    )?;
+    print!(rt; "with all of it")?;
     checked(
-        formula, proof, expected, &mut heads, &mut lits, &mut hints, &mut guess, &mut marks,
+        rt, formula, proof, expected, &mut heads, &mut lits, &mut hints, &mut guess, &mut marks,
         &mut tape,
-    );
+    )
+}
+
+// Puts the file, or as much of it as there is room for, at the front of `text`, and returns how many bytes that is.
+fn read_full(file: &mut File, text: &mut [u8]) -> io::Result<usize>
+    ensures { IfOk result (λ n. n ≤ length text.new) }
+{
+    let mut n = 0;
+    while n < text.len() {
+        let more = file.read(&mut text[n..])?;
+        if more == 0 {
+            break;
+        }
+        n += more;
+    }
+    Ok(n)
 }
 
 // Puts the file with this name and ending into text, and returns its length.
-fn read_file(name: &[u8], ending: &[u8], text: &mut [u8]) -> usize
-    ensures { IsPrefixLen result text.new }
+fn read_file(rt: &HostRuntime, name: &str, ending: &str, text: &mut [u8]) -> io::Result<usize>
+    ensures { IfOk result (λ n. n ≤ length text.new) }
 {
-    let mut path = io::buffer();
-    let m = append(&mut path, 0, name);
-    let n = append(&mut path, m, ending);
-    let fd = os::open_read(&path[..n]);
-    if fd < 0 {
-        os::fail(&path[..n]);
-        return 0;
-    }
-    let k = io::read_full(fd, text);
-    libc::close(fd);
-    k
+    let path = format!(in rt.alloc(); "{name}{ending}")?;
+    let mut file = File::open(rt, path)?;
+    read_full(&mut file, text)
 }
 
-fn one(name: &[u8], parts: bool) {
-    let mut formula = io::buffer();
-    let f = read_file(name, b".cnf", &mut formula);
-    let mut proof = io::buffer();
-    let p = read_file(name, b".lrat", &mut proof);
-    let mut expected = io::buffer();
-    let e = read_file(name, b".answer", &mut expected);
+fn one(rt: &HostRuntime, name: &str, parts: bool) -> io::Result<()> {
+    let mut formula = [0u8; 4096];
+    let f = read_file(rt, name, ".cnf", &mut formula)?;
+    let mut proof = [0u8; 4096];
+    let p = read_file(rt, name, ".lrat", &mut proof)?;
+    let mut expected = [0u8; 4096];
+    let e = read_file(rt, name, ".answer", &mut expected)?;
     if parts {
-        with_parts(&formula[..f], &proof[..p], &expected[..e]);
-        return;
+        return with_parts(rt, &formula[..f], &proof[..p], &expected[..e]);
     }
-    say(name);
-    with_room(&formula[..f], &proof[..p], &expected[..e]);
-    with_little(&formula[..f], &proof[..p], &expected[..e]);
-}
-
-fn named(i: usize, parts: bool) {
-    let mut name = io::buffer();
-    let m = os::arg(i, &mut name);
-    one(&name[..m], parts);
+    print!(rt; "{name}")?;
+    with_room(rt, &formula[..f], &proof[..p], &expected[..e])?;
+    with_little(rt, &formula[..f], &proof[..p], &expected[..e])
 }
 
 // All of them, and the first once more.
-fn main() {
-    let n = os::arg_count();
-    let mut i = 1;
-    while i < n {
-        named(i, false);
-        i += 1;
+fn main(rt: HostRuntime) -> io::Result<()> {
+    for name in env::args(&rt)?.skip(1) {
+        one(&rt, name.as_str(), false)?;
     }
-    named(1, true);
+    for name in env::args(&rt)?.skip(1).take(1) {
+        one(&rt, name.as_str(), true)?;
+    }
+    Ok(())
 }
