@@ -3,6 +3,7 @@
 // on the tape. The turns of every loop, also of those of other crates, are counted, up to the greatest number, so that no
 // slice can be too long.
 #![tactic(auto)]
+
 ghost use Rattle.std.specs.Prelude.{◌≡◌, [], ◌+◌, ◌-◌, ◌/◌, ◌<◌, ◌≤◌, length, get_or};
 ghost use Rattle.clauses.specs.Store.{live_of};
 ghost use Rattle.assignment.specs.Marks.{Shows};

@@ -1,6 +1,7 @@
 // The assignment of a judgement, as marks in a slice that the caller lends, and a tape of what was marked, to go back.
 // specs/Marks.antt says which assignment marks show. Nothing is promised of a tape that is too short: the caller asks first.
 #![tactic(auto)]
+
 ghost use Rattle.std.specs.Prelude.{◌≡◌, ◌-◌, ◌<◌, length};
 ghost use Rattle.assignment.specs.Marks.{Paired, Marked, Falsifies, Undoable, Undone};
 ghost use Rattle.assignment.specs.Sight.{Counted, Latest, Behind, OneLooks, Looks};

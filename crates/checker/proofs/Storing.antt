@@ -2,13 +2,12 @@
 use Prim.Native.Nat.{ℕ, zero, suc, ◌+◌, ◌-◌, ◌/◌, ◌<◌, ◌≤◌, max}
 use mathlib.Core.Path.{◌≡◌, refl, sym, ap, ◌∙◌}
 use mathlib.Core.Logic.{inl, inr, ⊎_elim}
-use mathlib.Core.Bool.{Bool, true, false, not}
+use mathlib.Core.Bool.{Bool, true, false}
 use mathlib.Core.List.{List, [], ◌∷◌, ◌++◌, map}
 use native.Mathlib.Omega.{arith}
-use borrow.Author.Tests.{not-true, not-false}
 use lib.ListN.{length, get_or, take}
 use lib.Seq.{slice, get_or-take, length-take-le, length-slice, get_or-drop}
-use Rattle.meaning.specs.Meaning.{variable, Clause, Formula, Within, AllWithin}
+use Rattle.meaning.specs.Meaning.{Clause, Formula, Within, AllWithin}
 use Rattle.rules.specs.Judging.{Live}
 use Rattle.rules.specs.Answers.{numbered, start}
 use Rattle.clauses.specs.Codes.{literal_of}

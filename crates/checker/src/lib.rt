@@ -6,6 +6,7 @@
 // `heads` and `lits` (the clauses), `hints` (the hints or ids of one step), `guess` (where clauses probably are; it may have any
 // length, also 0), `marks` and `tape` (the assignment). specs/Promises.antt says how long each has to be.
 #![tactic(auto)]
+
 pub mod running;
 
 ghost use Rattle.std.specs.Prelude.{◌≡◌, ◌+◌, ◌%◌, ◌≤◌, length};

@@ -2,6 +2,7 @@
 // looked up in the store of live clauses and marked as deleted. It and its literals keep their room until the store is compacted;
 // how much room that is, is counted here. Nothing is promised of heads that belong to no store.
 #![tactic(auto)]
+
 ghost use Rattle.std.specs.Prelude.{◌≡◌, ◌+◌, ◌-◌, ◌<◌, ◌≤◌, length};
 ghost use Rattle.clauses.specs.Store.{start_at, marked};
 ghost use Rattle.deletion.specs.Deleting.{Headed, Removable, Deletable, DeletesOne, Deletes};

@@ -1,7 +1,7 @@
 -- A whole formula: its end, its clauses, its first line. Assumes nothing.
 use Prim.Native.Nat.{ℕ, ◌+◌, ◌*◌, ◌-◌, ◌/◌, ◌≤◌, ◌<◌}
 use mathlib.Core.Path.{◌≡◌, refl, sym, ap, subst, ◌∙◌}
-use mathlib.Core.Logic.{◌⊎◌, inl, inr, ⊎_elim}
+use mathlib.Core.Logic.{inl, inr, ⊎_elim}
 use mathlib.Core.Bool.{Bool, true, false}
 use mathlib.Core.List.{List, [], ◌∷◌}
 use mathlib.Core.Option.{Option, none, some}
@@ -9,7 +9,6 @@ use native.Mathlib.Omega.{arith}
 use lib.ListN.{length, take, drop, length-drop, drop_of_length-le}
 use Rattle.meaning.specs.Meaning.{Clause, Formula}
 use Rattle.meaning.proofs.Truth.{clash}
-use Rattle.rules.specs.Tools.{◌>>=◌}
 use Rattle.rules.specs.Text.{Token, tokens}
 use Rattle.rules.specs.Formula.{after_comments, before, behind, header, read_clauses, read_formula}
 use Rattle.rules.proofs.Counting.{tokens_few}

@@ -4,6 +4,7 @@
 // (a crate of its own) writes them out. Room goes by what occurs in the text and not by what the header announces.
 // What is promised of unreadable bytes is only that they are found out, and of a store that is too short that it was.
 #![tactic(auto)]
+
 pub mod body;
 mod opening;
 

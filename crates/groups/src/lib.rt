@@ -2,6 +2,7 @@
 // contain the opposite of p, each once, in increasing order. One walk over the store and over the hints finds that out. What the
 // hints of a group do is not judged here, and nothing is promised of slices that hold no store.
 #![tactic(auto)]
+
 ghost use Rattle.std.specs.Prelude.{◌≡◌, ◌||◌, map, ◌+◌, ◌-◌, ◌/◌, ◌<◌, ◌≤◌, ◌^◌, eqb, length};
 ghost use Rattle.rules.specs.Judging.{among};
 ghost use Rattle.clauses.specs.Codes.{literal_of};

@@ -2,5 +2,6 @@
 // that go through clauses and hints. What is here leaves marks and a tape behind that the caller takes back; the order of the
 // rules and the ground of a refusal are the caller's.
 #![tactic(auto)]
+
 pub mod falsifying;
 pub mod hints;

@@ -2,6 +2,7 @@
 // include/proofscale.h says what a caller has to keep to. Nothing is decided here: an answer becomes a number, and what comes with
 // it goes to where the caller points.
 #![tactic(auto)]
+
 ghost use Rattle.std.specs.Prelude.{◌≡◌, ◌≤◌, length};
 ghost use Rattle.checker.specs.Promises.{step_of, time_bound};
 ghost use Rattle.proofscale.specs.Numbers.{number_of, ExactNumbers, MeansNumber, RoomNumber, LiveNumber, written_number, written_length, WritesNumbers};

@@ -4,16 +4,7 @@ use Prim.Native.String.{String}
 use mathlib.Core.Path.{◌≡◌, refl}
 use mathlib.Core.Option.{none, some}
 use Rattle.rules.specs.Tools.{bytes}
-use Rattle.rules.specs.Judging.{
-  Ground,
-  id_not_fresh,
-  opposite_literals,
-  hint_not_live,
-  hint_not_forced,
-  no_conflict,
-  groups_dont_match,
-  deletion_not_live,
-}
+use Rattle.rules.specs.Judging.{id_not_fresh, opposite_literals, hint_not_live, hint_not_forced, no_conflict, groups_dont_match, deletion_not_live}
 use Rattle.rules.specs.Answers.{
   Answer,
   verified,

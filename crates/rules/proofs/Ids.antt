@@ -11,23 +11,7 @@ use lib.ListN.{length}
 use Rattle.meaning.specs.Meaning.{Clause, Formula}
 use Rattle.meaning.proofs.Truth.{bool_cases}
 use Rattle.rules.specs.Steps.{Hint, Step, add, delete}
-use Rattle.rules.specs.Judging.{
-  Live,
-  find,
-  Ground,
-  has_opposites,
-  hints_fault,
-  addition_fault,
-  remove,
-  State,
-  Judged,
-  refused,
-  adds_empty,
-  goes_on,
-  judge_deletion,
-  added,
-  judge,
-}
+use Rattle.rules.specs.Judging.{Live, find, Ground, addition_fault, remove, State, Judged, refused, adds_empty, goes_on, judge_deletion, added, judge}
 use Rattle.rules.specs.Answers.{numbered, start}
 use Rattle.rules.proofs.Options.{none-some, some-none}
 

@@ -9,7 +9,7 @@ use borrow.Author.Tests.{le-leb, ne_eqb, eq-eqb}
 use lib.Dec.{eqb}
 use lib.ListN.{length}
 use Rattle.meaning.specs.Meaning.{Literal, pos, neg, Clause, Formula, variable, Within, AllWithin}
-use Rattle.rules.specs.Tools.{bytes, ◌>>=◌}
+use Rattle.rules.specs.Tools.{bytes}
 use Rattle.rules.specs.Limits.{max_variable, max_clauses}
 use Rattle.rules.specs.Text.{is_blank, Token, nought, plus, minus, is_nought, token, tokens, literal}
 use Rattle.rules.specs.Formula.{after_comments, before, behind, after_prefix, count, header, items, read_clauses, read_formula, WithinLimits}

@@ -60,28 +60,7 @@ use Rattle.rules.specs.Judging.{
   added,
   judge,
 }
-use Rattle.rules.specs.Answers.{
-  Ending,
-  ends_verified,
-  ends_unreadable_formula,
-  ends_unreadable_step,
-  ends_refused,
-  ends_unfinished,
-  Answer,
-  verified,
-  unreadable_formula,
-  unreadable_step,
-  refused_step,
-  unfinished,
-  answer,
-  run,
-  numbered,
-  start,
-  checked,
-  ending,
-  verdict,
-  Refuted,
-}
+use Rattle.rules.specs.Answers.{Ending, ends_verified, ends_unreadable_formula, ends_unreadable_step, ends_refused, ends_unfinished, verified, answer, run, numbered, start, checked, ending, verdict, Refuted}
 use Rattle.rules.proofs.Options.{none-some, some-none, some_inj}
 use Rattle.rules.proofs.Literals.{same_equal, opposite-false, opposite-true, among-satisfies}
 use Rattle.rules.proofs.Ids.{Orderly, OrderlyJudged, AllFound, rising_found, start_orderly, judge_orderly}

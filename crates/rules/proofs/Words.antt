@@ -9,25 +9,7 @@ use borrow.Author.Tests.{eqb-false, leb-true, leb-false, ne_eqb}
 use lib.Dec.{eqb, leb}
 use Rattle.meaning.proofs.Truth.{bool_cases, and_both, neither_or}
 use Rattle.rules.specs.Tools.{bytes}
-use Rattle.rules.specs.Text.{
-  Proper,
-  is_blank,
-  is_digit,
-  digits,
-  positive,
-  Token,
-  nought,
-  plus,
-  minus,
-  letter_d,
-  other,
-  signed,
-  same_bytes,
-  token,
-  word,
-  words_from,
-  tokens,
-}
+use Rattle.rules.specs.Text.{Proper, is_blank, is_digit, digits, positive, Token, plus, minus, signed, same_bytes, token, word, words_from, tokens}
 use Rattle.rules.proofs.Options.{none-some, some_inj}
 
 -- Bytes

@@ -3,7 +3,6 @@
 use Rattle.std.specs.Prelude.{ℕ, min, Bool, true, false, ◌||◌, List, [], ◌∷◌, ◌++◌, map, eqb, ltb}
 use Rattle.std.proofs.Math.Option.{Option, none, some}
 use Rattle.meaning.specs.Meaning.{Literal, pos, neg, Clause}
-use Rattle.rules.specs.Tools.{◌>>=◌}
 use Rattle.rules.specs.Steps.{Hint, look, group, Step, add, delete}
 
 -- Literals: "compared as numbers".

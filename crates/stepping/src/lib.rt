@@ -7,6 +7,7 @@
 // read to its end is charged twice for each byte that is left, since the word at fault is looked at twice.
 // What a refused or unreadable step leaves in the work store is not promised to mean anything.
 #![tactic(auto)]
+
 ghost use Rattle.std.specs.Prelude.{◌≡◌, ◌+◌, ◌-◌, ◌*◌, ◌<◌, ◌≤◌, ◌^◌, length};
 ghost use Rattle.clauses.specs.Store.{RoomFor};
 ghost use Rattle.addition.specs.Addition.{all_turns};

@@ -13,7 +13,7 @@ use Rattle.text.specs.declared.Token.{Token as Found}
 use Rattle.text.specs.declared.Token.TheVariants.{Plus, Minus}
 use Rattle.formula.specs.Body.{item_of}
 use Rattle.formula.specs.declared.body.Item.TheVariants.{Literal as Lit}
-use Rattle.steps.specs.Feeding.{FedBy, codes, phase_of, literal_fed, hint_fed, Feeds}
+use Rattle.steps.specs.Feeding.{FedBy, codes, phase_of, literal_fed, hint_fed}
 use Rattle.steps.specs.Reading.{Reading, Along, GoesOnward}
 use Rattle.steps.specs.declared.feeding.Kind.{Kind}
 use Rattle.steps.specs.declared.feeding.Kind.TheVariants.{Literals, Hints}

@@ -1,10 +1,10 @@
 -- Reading a step from a text: the state of the reader between two tokens, and what a token makes of it. Assumes nothing.
-use Prim.Native.Nat.{ℕ, ◌+◌, ◌-◌, ◌≤◌, ◌<◌}
+use Prim.Native.Nat.{ℕ, ◌+◌, ◌≤◌, ◌<◌}
 use mathlib.Core.Path.{◌≡◌, refl, sym, ap, subst, ◌∙◌}
 use mathlib.Core.Logic.{◌⊎◌, inl, inr, ⊎_elim}
 use mathlib.Core.Bool.{Bool, true, false}
 use mathlib.Core.List.{List, [], ◌∷◌, ◌++◌, map, append_assoc}
-use mathlib.Core.Option.{none, some}
+use mathlib.Core.Option.{none}
 use native.Mathlib.Omega.{arith}
 use borrow.Author.Tests.{ltb-true, ltb-false}
 use lib.Dec.{ltb}
@@ -18,8 +18,8 @@ use Rattle.text.specs.declared.Token.TheVariants.{Nought, Plus, Minus, LetterD, 
 use Rattle.text.proofs.Tokens.{word_short, blanks_short, scanned_nothing, scanned_token, Next}
 use Rattle.clauses.specs.Codes.{literal_of, hint_of, half}
 use Rattle.formula.proofs.Fillings.{placed_length}
-use Rattle.steps.specs.Partials.{Partial, at_start, resume, Advance, ends, unreadable, advance, afterwards, reach, taken}
-use Rattle.steps.specs.Feeding.{phase_of, partial_of, Begun, Stands, Midway, GoesOn, Adds, Deletes, FeedCase, Feeds}
+use Rattle.steps.specs.Partials.{at_start, resume, Advance, ends, unreadable, advance, afterwards, taken}
+use Rattle.steps.specs.Feeding.{phase_of, partial_of, Begun, Midway, GoesOn, Adds, Deletes, FeedCase, Feeds}
 use Rattle.steps.specs.Reading.{Reading, BeginsStep, AtEndCase, AtEnd, UnreadCase, Unread, StepNone, StepStopped, LargeIn, StepShort, StepCase, ReadsStep}
 use Rattle.steps.specs.declared.feeding.Kind.{Kind}
 use Rattle.steps.specs.declared.feeding.Kind.TheVariants.{Start, Body, Literals, Hints, Ids}

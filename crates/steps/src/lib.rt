@@ -11,6 +11,7 @@
 // for the leaves below. The look that ends `along` moves nothing on and is no turn; there is at most one for each token that is
 // fed.
 #![tactic(auto)]
+
 pub mod feeding;
 
 ghost use Rattle.std.specs.Prelude.{◌≡◌, ◌<◌, ◌≤◌, ◌^◌, length};

@@ -9,6 +9,7 @@
 // The turns of the loops are counted. A number of d digits counts as 2d of them where it is written, since `digits_in` and
 // `write_last_digits` make fewer than d turns each, and as d of them where only its length is asked.
 #![tactic(auto)]
+
 ghost use Rattle.std.specs.Prelude.{◌≡◌, ◌∷◌, [], map, ◌+◌, ◌*◌, ◌<◌, ◌≤◌, ◌^◌, length};
 ghost use Rattle.rules.specs.Written.{decimal, write_literal, write_clause, write_clauses};
 ghost use Rattle.clauses.specs.Codes.{literal_of};

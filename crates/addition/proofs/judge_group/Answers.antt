@@ -15,11 +15,18 @@ overflow_add-turns c =
     omega (arith, few, c.requires.one_group.is_next.group.within)
 
 pub judge_there-requires : goal.judge_there-requires
-judge_there-requires c = record { fit = c.requires.fit; t_in_bounds = c.requires.t_in_bounds; span = group_span _ _ _ c.requires.one_group.is_next; place_of = one_placed _ _ _ _ _ c.requires.fit _ _ c.requires.one_group _ _ c.count-passed.ensures c.lookup-found.result c.lookup-found.ensures.place c.lookup-found.ensures.turns
-                (omega (arith, c.ranges, c.well_formed)) _ _ c.in-At.is; lookable = ready_lookable _ _ _ _ c.requires.fit.ready _
-                  (one_placed _ _ _ _ _ c.requires.fit _ _ c.requires.one_group _ _ c.count-passed.ensures c.lookup-found.result c.lookup-found.ensures.place c.lookup-found.ensures.turns
-                  (omega (arith, c.ranges, c.well_formed)) _ _ c.in-At.is).inside; turns_bound = one_turns _ _ _ _ _ c.requires.fit _ _ c.requires.one_group _ _ c.count-passed.ensures c.lookup-found.result c.lookup-found.ensures.place c.lookup-found.ensures.turns
-                  (omega (arith, c.ranges, c.well_formed)) _ (ap turns_of c.in-At.is) }
+judge_there-requires c = record {
+  fit = c.requires.fit;
+  t_in_bounds = c.requires.t_in_bounds;
+  span = group_span _ _ _ c.requires.one_group.is_next;
+  place_of = one_placed _ _ _ _ _ c.requires.fit _ _ c.requires.one_group _ _ c.count-passed.ensures c.lookup-found.result c.lookup-found.ensures.place c.lookup-found.ensures.turns
+      (omega (arith, c.ranges, c.well_formed)) _ _ c.in-At.is;
+  lookable = ready_lookable _ _ _ _ c.requires.fit.ready _
+      (one_placed _ _ _ _ _ c.requires.fit _ _ c.requires.one_group _ _ c.count-passed.ensures c.lookup-found.result c.lookup-found.ensures.place c.lookup-found.ensures.turns
+      (omega (arith, c.ranges, c.well_formed)) _ _ c.in-At.is).inside;
+  turns_bound = one_turns _ _ _ _ _ c.requires.fit _ _ c.requires.one_group _ _ c.count-passed.ensures c.lookup-found.result c.lookup-found.ensures.place c.lookup-found.ensures.turns
+      (omega (arith, c.ranges, c.well_formed)) _ (ap turns_of c.in-At.is);
+}
 
 pub overflow_add-result : goal.overflow_add-result
 overflow_add-result c =

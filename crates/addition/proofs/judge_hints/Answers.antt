@@ -8,9 +8,14 @@ pub take_hints-r-requires : goal.take_hints-r-requires
 take_hints-r-requires c = record { ready = c.requires.begun.ready; t_in_bounds = c.requires.t_in_bounds; span = group_span _ _ _ c.next_group-from.ensures }
 
 pub after_hints-j-requires : goal.after_hints-j-requires
-after_hints-j-requires c = record { fit = hints_fit _ _ _ _ _ _ _ c.requires.begun c.requires.clausal _ c.next_group-from.ensures _ _ _ _ _ _ _ c.take_hints-r.ensures (omega (arith, c.ranges, c.well_formed)) _
-          c.count.ensures _ c.ended.ensures c.if-ended.true; t_in_bounds = c.take_hints-r.ensures.laid.room; next_group = c.next_group-from.ensures; clausal = hints_clausal _ _ _ _ _ _ _ c.requires.begun c.requires.clausal _ c.next_group-from.ensures _ _ _ _ _ _ _ c.take_hints-r.ensures
-              (omega (arith, c.ranges, c.well_formed)) _ c.count.ensures _ c.ended.ensures c.if-ended.true }
+after_hints-j-requires c = record {
+  fit = hints_fit _ _ _ _ _ _ _ c.requires.begun c.requires.clausal _ c.next_group-from.ensures _ _ _ _ _ _ _ c.take_hints-r.ensures (omega (arith, c.ranges, c.well_formed)) _
+      c.count.ensures _ c.ended.ensures c.if-ended.true;
+  t_in_bounds = c.take_hints-r.ensures.laid.room;
+  next_group = c.next_group-from.ensures;
+  clausal = hints_clausal _ _ _ _ _ _ _ c.requires.begun c.requires.clausal _ c.next_group-from.ensures _ _ _ _ _ _ _ c.take_hints-r.ensures
+      (omega (arith, c.ranges, c.well_formed)) _ c.count.ensures _ c.ended.ensures c.if-ended.true;
+}
 
 pub returns-then-ended : goal.returns-then-ended
 returns-then-ended c =

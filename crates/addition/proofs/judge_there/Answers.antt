@@ -9,8 +9,12 @@ pub falsify_others-r-requires : goal.falsify_others-r-requires
 falsify_others-r-requires c = record { paired = c.requires.fit.ready.paired; marked = there_known _ _ _ _ 0 c.requires.lookable _ _ c.start_at-start.ensures c.start_at-end.ensures; t_in_bounds = c.requires.t_in_bounds }
 
 pub try_hints-g-requires : goal.try_hints-g-requires
-try_hints-g-requires c = record { ready = place_ready _ _ _ _ _ c.requires.fit _ _ c.requires.t_in_bounds _ _ c.requires.span _ _ _ c.requires.place_of c.requires.lookable _ _ c.start_at-start.ensures
-          c.start_at-end.ensures _ _ _ _ _ c.falsify_others-r.ensures; t_in_bounds = c.falsify_others-r.ensures.laid.room; span = c.requires.span }
+try_hints-g-requires c = record {
+  ready = place_ready _ _ _ _ _ c.requires.fit _ _ c.requires.t_in_bounds _ _ c.requires.span _ _ _ c.requires.place_of c.requires.lookable _ _ c.start_at-start.ensures
+      c.start_at-end.ensures _ _ _ _ _ c.falsify_others-r.ensures;
+  t_in_bounds = c.falsify_others-r.ensures.laid.room;
+  span = c.requires.span;
+}
 
 pub undo-back-requires : goal.undo-back-requires
 undo-back-requires c =

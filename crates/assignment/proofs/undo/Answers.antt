@@ -1,4 +1,3 @@
-use Prim.Native.Nat.{◌-◌}
 use Rattle.assignment.proofs.Marking.{undoing_start, undoing_inside, undoing_on, undoing_done, undoing_turns}
 use Rattle.assignment.proofs.undo.Goals as goal
 

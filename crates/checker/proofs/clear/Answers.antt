@@ -1,4 +1,3 @@
-use Prim.Native.Nat.{◌-◌}
 use native.Mathlib.Omega.{arith}
 use Rattle.checker.proofs.Clearing.{clearing_start, clearing_on, clearing_end}
 use Rattle.checker.proofs.clear.Goals as goal

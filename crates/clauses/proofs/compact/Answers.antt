@@ -1,4 +1,4 @@
-use Rattle.std.proofs.Common.{◌-◌, arith}
+use Rattle.std.proofs.Common.{arith}
 use Rattle.clauses.proofs.Compacting.{compacting_start, compacting_movable, compacting_on, compacting_small, compacting_end}
 use Rattle.clauses.proofs.compact.Goals as goal
 

@@ -18,11 +18,10 @@ pub overflow_add-base : goal.overflow_add-base
 overflow_add-base c = omega (arith, step-le c)
 
 pub loop-span-preserved : goal.loop-span-preserved
-loop-span-preserved c =
-    (
-      rw (c.reached.ensures, c.head_at.ensures) (bracket_on _ _ _ _ _ c.requires.rising c.loop-span.invariant.0 c.loop-span-test.true),
-      halving_on _ _ _ _ c.loop-span.invariant.1 c.loop-span-test.true (omega arith),
-    )
+loop-span-preserved c = (
+  rw (c.reached.ensures, c.head_at.ensures) (bracket_on _ _ _ _ _ c.requires.rising c.loop-span.invariant.0 c.loop-span-test.true),
+  halving_on _ _ _ _ c.loop-span.invariant.1 c.loop-span-test.true (omega arith),
+)
 
 pub returns-then-head_at-id : goal.returns-then-head_at-id
 returns-then-head_at-id c = record { place = (omega arith, omega (arith, c.if-head_at-id.true, c.head_at-2.ensures)); turns = halving_end _ _ _ c.loop-span.invariant.1 c.loop-span.invariant.0.some c.loop-span-test.false }

@@ -1,4 +1,4 @@
-use Rattle.std.proofs.Common.{◌-◌, refl}
+use Rattle.std.proofs.Common.{refl}
 use Rattle.clauses.proofs.Compacting.{shifting_start, shifting_on, shifting_end}
 use Rattle.clauses.proofs.shift.Goals as goal
 

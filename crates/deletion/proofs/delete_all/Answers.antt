@@ -1,4 +1,3 @@
-use Prim.Native.Nat.{◌-◌}
 use mathlib.Core.Path.{◌∙◌}
 use native.Mathlib.Omega.{arith}
 use Rattle.deletion.proofs.Removing.{taking_start, taking_one, taking_on, taking_missing, taking_done, one-long}

@@ -1,4 +1,3 @@
-use Prim.Native.Nat.{◌-◌}
 use Rattle.groups.proofs.Among.{seeking_start, seeking_on, seeking_done}
 use Rattle.groups.proofs.contains.Goals as goal
 

@@ -1,4 +1,3 @@
-use Prim.Native.Nat.{◌-◌}
 use native.Mathlib.Omega.{arith}
 use Rattle.groups.proofs.Walking.{matching_start, stored_placed, matching_room, matching_on, matching_differs, matching_done}
 use Rattle.groups.proofs.match_groups.Goals as goal

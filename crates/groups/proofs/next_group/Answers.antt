@@ -1,4 +1,3 @@
-use Prim.Native.Nat.{◌-◌}
 use native.Mathlib.Omega.{arith}
 use Rattle.groups.proofs.Hints.{no_group_start, no_group_on}
 use Rattle.groups.proofs.next_group.Goals as goal

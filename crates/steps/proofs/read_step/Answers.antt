@@ -1,4 +1,3 @@
-use Prim.Native.Nat.{◌-◌}
 use mathlib.Core.Path.{refl}
 use native.Mathlib.Omega.{arith}
 use Rattle.steps.proofs.Readings.{reading-start, reading_lits, reading_hints, reading_next, reading_on, reading-added, reading_deleted, reading_short, reading-unread}

@@ -1,4 +1,3 @@
-use Prim.Native.Nat.{◌-◌}
 use Rattle.writer.proofs.Sums.{adding_start, adding_on, adding_over, adding_end}
 use Rattle.writer.proofs.add_clause.Goals as goal
 

@@ -1,4 +1,3 @@
-use Prim.Native.Nat.{◌-◌}
 use native.Mathlib.Omega.{arith}
 use Rattle.writer.proofs.Stored.{formed_placed}
 use Rattle.writer.proofs.Sums.{adding_all_start, adding_all_turns, adding_all_on, adding_all_over, adding_all_end}

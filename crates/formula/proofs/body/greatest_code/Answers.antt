@@ -1,4 +1,3 @@
-use Prim.Native.Nat.{◌-◌}
 use Rattle.formula.proofs.Greatest.{topping_start, topping_on, topping_done}
 use Rattle.formula.proofs.body.greatest_code.Goals as goal
 

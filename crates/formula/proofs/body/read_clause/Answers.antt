@@ -1,4 +1,3 @@
-use Prim.Native.Nat.{◌-◌}
 use mathlib.Core.Path.{sym, ◌∙◌}
 use native.Mathlib.Omega.{arith}
 use Rattle.formula.proofs.Bodies.{reading-start, reading_next, reading_on, reading_done, reading_bad, reading-long}

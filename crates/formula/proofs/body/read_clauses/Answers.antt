@@ -1,5 +1,4 @@
 use Rattle.formula.proofs.Fillings.{reads-long, closes_long}
-use Prim.Native.Nat.{◌-◌}
 use mathlib.Core.Path.{◌∙◌}
 use native.Mathlib.Omega.{arith}
 use Rattle.formula.proofs.Fillings.{filling_start, filling_done, filling_bad, filling_long, filling_full, filling_on}

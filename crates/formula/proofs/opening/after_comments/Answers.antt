@@ -1,4 +1,3 @@
-use Prim.Native.Nat.{◌-◌}
 use native.Mathlib.Omega.{arith}
 use Rattle.formula.proofs.Openings.{passing_start, passing_end, passing_stop, passing_on}
 use Rattle.formula.proofs.opening.after_comments.Goals as goal

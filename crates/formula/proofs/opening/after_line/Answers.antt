@@ -1,4 +1,3 @@
-use Prim.Native.Nat.{◌-◌}
 use Rattle.formula.proofs.Openings.{inside_start, inside_end, inside_on, inside_feed}
 use Rattle.formula.proofs.opening.after_line.Goals as goal
 

@@ -1,4 +1,3 @@
-use Prim.Native.Nat.{◌-◌}
 use Rattle.formula.proofs.Openings.{seeking_start, seeking_end, seeking_stop, seeking_on}
 use Rattle.formula.proofs.opening.first.Goals as goal
 

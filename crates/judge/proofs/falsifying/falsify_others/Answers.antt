@@ -1,4 +1,3 @@
-use Prim.Native.Nat.{◌-◌}
 use mathlib.Core.Path.{◌∙◌}
 use native.Mathlib.Omega.{arith}
 use Rattle.judge.proofs.Falling.{falling_start, falling_paired, falling_known, falling_stop, falling_on, falling_end}

@@ -1,4 +1,3 @@
-use Prim.Native.Nat.{◌-◌}
 use mathlib.Core.Path.{◌∙◌}
 use native.Mathlib.Omega.{arith}
 use Rattle.judge.proofs.Hinting.{ready_room, ahead_here}
@@ -48,12 +47,11 @@ pub loop-i-smaller : goal.loop-i-smaller
 loop-i-smaller c = omega (arith, c.loop-i-test.true)
 
 pub loop-i-preserved : goal.loop-i-preserved
-loop-i-preserved c =
-    (
-      taking_on _ _ _ _ _ _ _ _ _ _ _ _ _ _ c.loop-i.invariant.0 c.requires.ready c.requires.span c.loop-i-test.true _ c.half-id.ensures.0 _ _ _ _ _
-          c.take_one-r.ensures _ c.plus-turns.ensures _ c.stops.ensures c.if-stops.false,
-      c.peek_next-ahead-in-loop-i.ensures,
-    )
+loop-i-preserved c = (
+  taking_on _ _ _ _ _ _ _ _ _ _ _ _ _ _ c.loop-i.invariant.0 c.requires.ready c.requires.span c.loop-i-test.true _ c.half-id.ensures.0 _ _ _ _ _
+      c.take_one-r.ensures _ c.plus-turns.ensures _ c.stops.ensures c.if-stops.false,
+  c.peek_next-ahead-in-loop-i.ensures,
+)
 
 pub shape_of-marks : goal.shape_of-marks
 shape_of-marks c = c.loop-i.invariant.0.laid.differ.long
