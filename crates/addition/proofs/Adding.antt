@@ -1,15 +1,9 @@
 -- Laws of the rules put together: behind the hints of rule 3, the hints themselves, and the clause that is to be added. Assumes
 -- nothing.
-use Prim.Native.Nat.{ℕ, ◌+◌, ◌-◌, ◌*◌, ◌^◌, ◌<◌, ◌≤◌}
-use mathlib.Core.Path.{◌≡◌, refl, sym, ap, subst, ◌∙◌}
-use mathlib.Core.Bool.{Bool, true, false, true≢false, false≢true}
-use mathlib.Core.List.{List, [], ◌∷◌, map}
-use mathlib.Core.Option.{none, some}
-use native.Mathlib.Omega.{arith}
-use native.Mathlib.Numerals.{add-one}
-use borrow.Author.Tests.{lt-ltb, le-ltb}
-use lib.ListN.{length, get_or, take, drop, length-take, drop_of_length-le}
-use lib.Seq.{slice, slice-cons, length-slice, length-take-le, get_or-drop, get_or-take}
+use Rattle.std.proofs.Common.{ℕ, ◌+◌, ◌-◌, ◌*◌, ◌^◌, ◌<◌, ◌≤◌, ◌≡◌, refl, sym, ap, subst, ◌∙◌, Bool, true, false, true≢false, List, [], ◌∷◌, map, arith, add-one, lt-ltb, le-ltb, length, get_or, take, drop, length-take, drop_of_length-le, length-take-le, get_or-drop, get_or-take}
+use Rattle.std.proofs.Math.Bool.{false≢true}
+use Rattle.std.proofs.Math.Option.{none, some}
+use Rattle.std.proofs.Math.Seq.{slice, slice-cons, length-slice}
 use Rattle.meaning.specs.Meaning.{Literal, Clause}
 use Rattle.rules.specs.Steps.{Hint}
 use Rattle.rules.specs.Judging.{Ground as Fault, id_not_fresh, no_conflict, groups_dont_match, opposite_literals, Live, opposite, containing, mismatch, has_opposites, Trail}

@@ -1,10 +1,6 @@
 -- Laws of verdicts: what they say, with more room needed, and by how hints ended. Assumes nothing.
-use Prim.Native.Nat.{ℕ, ◌+◌, ◌≤◌}
-use mathlib.Core.Path.{◌≡◌, sym, ap, ◌∙◌}
-use mathlib.Core.List.{List}
-use mathlib.Core.Option.{Option}
-use native.Mathlib.Omega.{arith}
-use lib.ListN.{length}
+use Rattle.std.proofs.Common.{ℕ, ◌+◌, ◌≤◌, ◌≡◌, sym, ap, ◌∙◌, List, arith, length}
+use Rattle.std.proofs.Math.Option.{Option}
 use Rattle.rules.specs.Judging.{Ground as Fault, Live, Taken, take_hints, group_end}
 use Rattle.judge.specs.Hints.{SaysCase as HintsSay, PassedCase, Takes}
 use Rattle.judge.specs.declared.falsifying.Falsity.TheVariants.{AllFalse}

@@ -1,13 +1,6 @@
 -- From the end of the run to the answer, and from the formula in the store to the formula that the bytes spell. Assumes nothing.
-use Prim.Native.Nat.{ℕ, ◌+◌, ◌*◌, ◌/◌, ◌%◌, ◌≤◌}
-use mathlib.Core.Path.{◌≡◌, refl, sym, ap, ◌∙◌}
-use mathlib.Core.Logic.{inl, inr, ⊎_elim}
-use mathlib.Core.Bool.{false}
-use mathlib.Core.List.{List}
-use mathlib.Core.Option.{some}
-use native.Mathlib.Omega.{arith}
-use native.Mathlib.Nat.{mul-le-mul}
-use lib.ListN.{length, take}
+use Rattle.std.proofs.Common.{ℕ, ◌+◌, ◌*◌, ◌/◌, ◌%◌, ◌≤◌, ◌≡◌, refl, sym, ap, ◌∙◌, inl, inr, ⊎_elim, false, List, arith, mul-le-mul, length, take}
+use Rattle.std.proofs.Math.Option.{some}
 use Rattle.meaning.specs.Meaning.{Formula}
 use Rattle.rules.specs.Text.{tokens}
 use Rattle.rules.specs.Formula.{read_formula}

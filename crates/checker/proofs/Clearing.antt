@@ -1,11 +1,5 @@
 -- Clearing the marks, so that they show no literal false; and the turns of reading a formula. Assumes nothing.
-use Prim.Native.Nat.{ℕ, ◌+◌, ◌*◌, ◌%◌, ◌<◌, ◌≤◌}
-use mathlib.Core.Path.{◌≡◌, refl, ◌∙◌}
-use mathlib.Core.Logic.{⊎_elim}
-use mathlib.Core.List.{List, []}
-use native.Mathlib.Omega.{arith}
-use lib.ListN.{length, get_or, set, length-set}
-use lib.Seq.{get_or-set_same, get_or-set_other}
+use Rattle.std.proofs.Common.{ℕ, ◌+◌, ◌*◌, ◌%◌, ◌<◌, ◌≤◌, ◌≡◌, refl, ◌∙◌, ⊎_elim, List, [], arith, length, get_or, set, length-set, get_or-set_same, get_or-set_other}
 use Rattle.rules.specs.Judging.{among}
 use Rattle.clauses.specs.Counting.{Reaches, Counts}
 use Rattle.clauses.proofs.Counting.{reaches_same, reaches_less, reaches_plus}

@@ -1,12 +1,5 @@
 -- The run over the steps of a proof: what is known between two of them, and what it is known to come to. Assumes nothing.
-use Prim.Native.Nat.{ℕ, ◌+◌, ◌-◌, ◌*◌, ◌^◌, ◌<◌, ◌≤◌}
-use mathlib.Core.Path.{◌≡◌, refl, ◌∙◌}
-use mathlib.Core.Logic.{inl, inr, ⊎_elim}
-use mathlib.Core.Bool.{true, false}
-use mathlib.Core.List.{List}
-use native.Mathlib.Omega.{arith}
-use native.Mathlib.Numerals.{add-one}
-use lib.ListN.{length, drop}
+use Rattle.std.proofs.Common.{ℕ, ◌+◌, ◌-◌, ◌*◌, ◌^◌, ◌<◌, ◌≤◌, ◌≡◌, refl, ◌∙◌, inl, inr, ⊎_elim, true, false, List, arith, add-one, length, drop}
 use Rattle.rules.specs.Text.{Token, tokens}
 use Rattle.rules.specs.Judging.{State}
 use Rattle.rules.proofs.Counting.{tokens_few}

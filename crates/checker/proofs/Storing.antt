@@ -1,12 +1,6 @@
 -- The formula in the store: the variables of its literals, and the state that the run starts from. Assumes nothing.
-use Prim.Native.Nat.{ℕ, zero, suc, ◌+◌, ◌-◌, ◌/◌, ◌<◌, ◌≤◌, max}
-use mathlib.Core.Path.{◌≡◌, refl, sym, ap, ◌∙◌}
-use mathlib.Core.Logic.{inl, inr, ⊎_elim}
-use mathlib.Core.Bool.{Bool, true, false}
-use mathlib.Core.List.{List, [], ◌∷◌, ◌++◌, map}
-use native.Mathlib.Omega.{arith}
-use lib.ListN.{length, get_or, take}
-use lib.Seq.{slice, get_or-take, length-take-le, length-slice, get_or-drop}
+use Rattle.std.proofs.Common.{ℕ, zero, suc, ◌+◌, ◌-◌, ◌/◌, ◌<◌, ◌≤◌, max, ◌≡◌, refl, sym, ap, ◌∙◌, inl, inr, ⊎_elim, Bool, true, false, List, [], ◌∷◌, ◌++◌, map, arith, length, get_or, take, get_or-take, length-take-le, get_or-drop}
+use Rattle.std.proofs.Math.Seq.{slice, length-slice}
 use Rattle.meaning.specs.Meaning.{Clause, Formula, Within, AllWithin}
 use Rattle.rules.specs.Judging.{Live}
 use Rattle.rules.specs.Answers.{numbered, start}

@@ -1,7 +1,7 @@
 -- Laws of moving clauses down. Assumes nothing.
 use Rattle.std.proofs.Common.{◌≡◌, ℕ, ◌+◌, ◌-◌, ◌*◌, ◌/◌, ◌%◌, ◌^◌, ◌<◌, ◌≤◌, eqb, ◌⊎◌, List, [], ◌∷◌, ◌++◌, map, length, get_or, take, set, sym, refl, ap, ◌∙◌, ⊎_elim, append-nil, arith, length-set, length-take-le, get_or-drop, get_or-set_other, get_or-take, get_or-set_same, ext_get_or, eqb-true}
 use borrow.Author.Tests.{eqb-false}
-use lib.Seq.{slice, length-slice}
+use Rattle.std.proofs.Math.Seq.{slice, length-slice}
 use Rattle.meaning.proofs.Truth.{bool_cases}
 use Rattle.rules.specs.Judging.{Live}
 use Rattle.clauses.specs.Codes.{literal_of}

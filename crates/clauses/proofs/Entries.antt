@@ -1,7 +1,7 @@
 -- Laws of what the two lists hold: the same numbers at the same places are the same live clauses. Assumes nothing.
 use Rattle.std.proofs.Common.{◌≡◌, ℕ, zero, suc, ◌+◌, ◌-◌, ◌/◌, ◌%◌, ◌<◌, ◌≤◌, eqb, List, [], ◌∷◌, ◌++◌, map, take, drop, sym, refl, ap, ◌∙◌, add-one, arith, take-take, eq-eqb, ne_eqb, eqb-true}
 use borrow.Author.Tests.{eqb-false}
-use lib.Seq.{slice}
+use Rattle.std.proofs.Math.Seq.{slice}
 use Rattle.meaning.proofs.Truth.{bool_cases}
 use Rattle.clauses.specs.Codes.{literal_of}
 use Rattle.clauses.specs.Store.{id_at, start_at, clause_at, entry_at, live_of, Store}

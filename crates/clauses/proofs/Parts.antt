@@ -1,6 +1,6 @@
 -- Parts of a slice, as the code lends them: `&s[a..]` and `&s[a..e]`. Assumes nothing.
 use Rattle.std.proofs.Common.{◌≡◌, ℕ, ◌+◌, ◌-◌, ◌≤◌, List, ◌++◌, length, take, drop, sym, ap, ◌∙◌, arith, length-drop, length-take-le, take_all, take-add, drop_at}
-use lib.Seq.{slice}
+use Rattle.std.proofs.Math.Seq.{slice}
 
 pub part_rest : (s : List ℕ) (a : ℕ) → take (length s - a) (drop a s) ≡ drop a s
 part_rest s a = take_all (length s - a) (drop a s) (omega (arith, length-drop a s))

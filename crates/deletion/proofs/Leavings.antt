@@ -1,13 +1,6 @@
 -- What the deleted clauses take, before and after one more is added or deleted. Assumes nothing.
-use Prim.Native.Nat.{ℕ, zero, suc, ◌+◌, ◌-◌, ◌*◌, ◌%◌, ◌<◌, ◌≤◌}
-use mathlib.Core.Path.{◌≡◌, refl, sym, ap, ◌∙◌}
-use mathlib.Core.Logic.{⊎_elim}
-use mathlib.Core.List.{List}
-use native.Mathlib.Omega.{arith}
-use native.Mathlib.Numerals.{add-one}
-use borrow.Author.Tests.{eqb-true, eqb-false, eq-eqb, ne_eqb}
-use lib.Dec.{eqb}
-use lib.ListN.{length}
+use Rattle.std.proofs.Common.{ℕ, zero, suc, ◌+◌, ◌-◌, ◌*◌, ◌%◌, ◌<◌, ◌≤◌, ◌≡◌, refl, sym, ap, ◌∙◌, ⊎_elim, List, arith, add-one, eqb-true, eq-eqb, ne_eqb, eqb, length}
+use borrow.Author.Tests.{eqb-false}
 use Rattle.meaning.proofs.Truth.{bool_cases}
 use Rattle.clauses.specs.Store.{id_at, start_at, RoomFor, written, marked}
 use Rattle.clauses.proofs.Numbers.{cut}

@@ -1,14 +1,6 @@
 -- Deleting one clause, and the run over the ids. Assumes nothing.
-use Prim.Native.Nat.{ℕ, ◌+◌, ◌-◌, ◌*◌, ◌/◌, ◌%◌, ◌^◌, ◌<◌, ◌≤◌}
-use mathlib.Core.Path.{◌≡◌, refl, sym, ap, subst, ◌∙◌}
-use mathlib.Core.Logic.{⊎_elim}
-use mathlib.Core.List.{List, [], ◌∷◌, map}
-use mathlib.Core.Option.{none, some}
-use native.Mathlib.Omega.{arith}
-use native.Mathlib.Numerals.{add-one}
-use lib.ListN.{length, get_or, take, drop, drop_of_length-le}
-use lib.Pow.{pow_mono}
-use lib.Seq.{drop-cons, get_or-take, length-take-le}
+use Rattle.std.proofs.Common.{ℕ, ◌+◌, ◌-◌, ◌*◌, ◌/◌, ◌%◌, ◌^◌, ◌<◌, ◌≤◌, ◌≡◌, refl, sym, ap, subst, ◌∙◌, ⊎_elim, List, [], ◌∷◌, map, arith, add-one, length, get_or, take, drop, drop_of_length-le, pow_mono, drop-cons, get_or-take, length-take-le}
+use Rattle.std.proofs.Math.Option.{none, some}
 use Rattle.meaning.specs.Meaning.{Clause}
 use Rattle.rules.specs.Judging.{Live, State, refused, goes_on, deletion_not_live, find, remove, judge_deletion}
 use Rattle.clauses.specs.Codes.{half}

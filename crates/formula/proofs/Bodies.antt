@@ -1,15 +1,8 @@
 -- Reading a clause: what a token does, and the state of a reader between two tokens. Assumes nothing.
-use Prim.Native.Nat.{ℕ, suc, ◌+◌, ◌*◌, ◌≤◌, ◌<◌}
-use mathlib.Core.Path.{◌≡◌, refl, sym, ap, ◌∙◌}
-use mathlib.Core.Bool.{true, false}
-use mathlib.Core.List.{List, [], ◌∷◌, ◌++◌, map, append_assoc, append-nil}
-use mathlib.Core.Option.{Option, none, some}
-use native.Mathlib.Numerals.{add-one}
-use native.Mathlib.Omega.{arith}
-use borrow.Author.Tests.{le-leb, lt-leb, leb-true}
-use lib.Dec.{leb}
-use lib.ListN.{length, take, drop, get_or, set, length-append, length-set, take-append-drop}
-use lib.Seq.{drop-cons, set_at, length-take-le}
+use Rattle.std.proofs.Common.{ℕ, suc, ◌+◌, ◌*◌, ◌≤◌, ◌<◌, ◌≡◌, refl, sym, ap, ◌∙◌, true, false, List, [], ◌∷◌, ◌++◌, map, append_assoc, append-nil, add-one, arith, le-leb, leb-true, leb, length, take, drop, get_or, set, length-append, length-set, take-append-drop, drop-cons, length-take-le}
+use Rattle.std.proofs.Math.Option.{Option, none, some}
+use borrow.Author.Tests.{lt-leb}
+use Rattle.std.proofs.Math.Seq.{set_at}
 use Rattle.meaning.specs.Meaning.{pos, neg, Clause}
 use Rattle.meaning.proofs.Truth.{bool_cases}
 use Rattle.rules.specs.Tools.{◌>>=◌}

@@ -1,15 +1,8 @@
 -- The line `p cnf V C`: its prefix, and a whole slice as a number. Assumes nothing.
-use Prim.Native.Nat.{ℕ, suc, ◌+◌, ◌*◌, ◌-◌, ◌≤◌, ◌<◌}
-use mathlib.Core.Path.{◌≡◌, refl, sym, ap, ◌∙◌}
-use mathlib.Core.Bool.{Bool, true, false}
-use mathlib.Core.List.{List, [], ◌∷◌}
-use mathlib.Core.Option.{Option, none, some}
-use native.Mathlib.Numerals.{add-one}
-use native.Mathlib.Omega.{arith}
-use borrow.Author.Tests.{eq-eqb, ne_eqb, eqb-true, eqb-false, lt-leb, le-leb, leb-true, ltb-true, ltb-false}
-use lib.Dec.{eqb, leb, ltb}
-use lib.ListN.{length, take, drop, get_or, drop_of_length-le}
-use lib.Seq.{drop-cons, slice}
+use Rattle.std.proofs.Common.{ℕ, suc, ◌+◌, ◌*◌, ◌-◌, ◌≤◌, ◌<◌, ◌≡◌, refl, sym, ap, ◌∙◌, Bool, true, false, List, [], ◌∷◌, add-one, arith, eq-eqb, ne_eqb, eqb-true, le-leb, leb-true, ltb-true, ltb-false, eqb, leb, ltb, length, take, drop, get_or, drop_of_length-le, drop-cons}
+use Rattle.std.proofs.Math.Option.{Option, none, some}
+use borrow.Author.Tests.{eqb-false, lt-leb}
+use Rattle.std.proofs.Math.Seq.{slice}
 use Rattle.meaning.proofs.Truth.{bool_cases, and_both, clash}
 use Rattle.rules.specs.Tools.{bytes, only, ◌>>=◌}
 use Rattle.rules.specs.Limits.{max_variable, max_clauses}

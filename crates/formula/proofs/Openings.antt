@@ -1,13 +1,6 @@
 -- Comment lines, and the first place of a byte: laws for the loops of src/opening.rt. Assumes nothing.
-use Prim.Native.Nat.{ℕ, ◌+◌, ◌≤◌, ◌<◌}
-use mathlib.Core.Path.{◌≡◌, refl, ap, ◌∙◌}
-use mathlib.Core.Bool.{true, false}
-use mathlib.Core.List.{List, [], ◌∷◌, ◌++◌, append_assoc, append-nil}
-use native.Mathlib.Numerals.{add-one}
-use native.Mathlib.Omega.{arith}
-use borrow.Author.Tests.{eq-eqb, ne_eqb}
-use lib.ListN.{length, take, drop, get_or, drop_of_length-le}
-use lib.Seq.{drop-cons, slice, slice_empty, take-suc, drop-append-le, length-take-le}
+use Rattle.std.proofs.Common.{ℕ, ◌+◌, ◌≤◌, ◌<◌, ◌≡◌, refl, ap, ◌∙◌, true, false, List, [], ◌∷◌, ◌++◌, append_assoc, append-nil, add-one, arith, eq-eqb, ne_eqb, length, take, drop, get_or, drop_of_length-le, drop-cons, take-suc, length-take-le}
+use Rattle.std.proofs.Math.Seq.{slice, slice_empty, drop-append-le}
 use Rattle.rules.specs.Formula.{after_comments, before, behind}
 use Rattle.formula.specs.Opening.{AfterLine, AfterComments, FirstAt}
 

@@ -1,8 +1,5 @@
 -- Writing a formula out: from what reading and writing say of the store to what they say of the bytes. Assumes nothing.
-use Prim.Native.Nat.{ℕ}
-use mathlib.Core.Path.{◌≡◌, refl, sym, ap, subst, ◌∙◌}
-use mathlib.Core.List.{List, ◌++◌}
-use lib.ListN.{length, drop}
+use Rattle.std.proofs.Common.{ℕ, ◌≡◌, refl, sym, ap, subst, ◌∙◌, List, ◌++◌, length, drop}
 use Rattle.meaning.specs.Meaning.{Formula}
 use Rattle.rules.specs.Formula.{read_formula}
 use Rattle.rules.specs.Written.{write_formula}

@@ -1,14 +1,5 @@
 -- A literal among those of a clause, one after the other. Assumes nothing.
-use Prim.Native.Nat.{ℕ, ◌+◌, ◌<◌, ◌≤◌}
-use mathlib.Core.Path.{◌≡◌, refl, sym, ap, ◌∙◌}
-use mathlib.Core.Bool.{Bool, true, false, ◌||◌}
-use mathlib.Core.List.{List, [], ◌∷◌, ◌++◌, map}
-use native.Mathlib.Omega.{arith}
-use native.Mathlib.Numerals.{add-one}
-use borrow.Author.Tests.{eq-eqb, ne_eqb}
-use lib.Dec.{eqb}
-use lib.ListN.{length, get_or, take}
-use lib.Seq.{take-suc, take_all}
+use Rattle.std.proofs.Common.{ℕ, ◌+◌, ◌<◌, ◌≤◌, ◌≡◌, refl, sym, ap, ◌∙◌, Bool, true, false, ◌||◌, List, [], ◌∷◌, ◌++◌, map, arith, add-one, eq-eqb, ne_eqb, eqb, length, get_or, take, take-suc, take_all}
 use Rattle.meaning.specs.Meaning.{Literal}
 use Rattle.rules.specs.Judging.{same_literal, among}
 use Rattle.clauses.specs.Codes.{literal_of}

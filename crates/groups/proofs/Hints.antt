@@ -1,13 +1,7 @@
 -- Laws of hints as numbers: what `leading` and `groups` of document 01 are, by the places where groups begin. Assumes nothing.
-use Prim.Native.Nat.{ℕ, zero, suc, ◌+◌, ◌-◌, ◌%◌, ◌<◌, ◌≤◌}
-use mathlib.Core.Path.{◌≡◌, refl, sym, ap, ◌∙◌}
-use mathlib.Core.List.{List, [], ◌∷◌, map}
-use native.Mathlib.Omega.{arith}
-use native.Mathlib.Numerals.{add-one}
-use borrow.Author.Tests.{eqb-true, eqb-false}
-use lib.Dec.{eqb}
-use lib.ListN.{length, get_or, take, drop, drop_of_length-le}
-use lib.Seq.{drop-cons, slice, slice-cons, slice_empty}
+use Rattle.std.proofs.Common.{ℕ, zero, suc, ◌+◌, ◌-◌, ◌%◌, ◌<◌, ◌≤◌, ◌≡◌, refl, sym, ap, ◌∙◌, List, [], ◌∷◌, map, arith, add-one, eqb-true, eqb, length, get_or, take, drop, drop_of_length-le, drop-cons}
+use borrow.Author.Tests.{eqb-false}
+use Rattle.std.proofs.Math.Seq.{slice, slice-cons, slice_empty}
 use Rattle.meaning.proofs.Truth.{bool_cases}
 use Rattle.rules.specs.Steps.{Hint, look, group}
 use Rattle.rules.specs.Judging.{leading, groups}

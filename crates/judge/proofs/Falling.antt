@@ -1,15 +1,7 @@
 -- Laws of making the literals of a clause false: taken one by one, each under the assignment that those before it left, they
 -- say whether one is true or two are opposites. Assumes nothing.
-use Prim.Native.Nat.{ℕ, suc, ◌+◌, ◌^◌, ◌<◌, ◌≤◌}
-use mathlib.Core.Path.{◌≡◌, refl, sym, ap, ◌∙◌}
-use mathlib.Core.Logic.{inl, inr, ⊎_elim}
-use mathlib.Core.Bool.{Bool, true, false, ◌||◌, true≢false, false≢true}
-use mathlib.Core.List.{List, [], ◌∷◌, ◌++◌, map, append-nil}
-use native.Mathlib.Omega.{arith}
-use native.Mathlib.Numerals.{add-one}
-use borrow.Author.Tests.{eq-eqb, ne_eqb}
-use lib.ListN.{length, get_or, drop, drop_of_length-le}
-use lib.Seq.{drop-cons}
+use Rattle.std.proofs.Common.{ℕ, suc, ◌+◌, ◌^◌, ◌<◌, ◌≤◌, ◌≡◌, refl, sym, ap, ◌∙◌, inl, inr, ⊎_elim, Bool, true, false, ◌||◌, true≢false, List, [], ◌∷◌, ◌++◌, map, append-nil, arith, add-one, eq-eqb, ne_eqb, length, get_or, drop, drop_of_length-le, drop-cons}
+use Rattle.std.proofs.Math.Bool.{false≢true}
 use Rattle.meaning.specs.Meaning.{Literal, Clause}
 use Rattle.meaning.proofs.Truth.{bool_cases, or_left}
 use Rattle.rules.specs.Judging.{opposite, same_literal, among, without, has_opposites, Trail, some_true}

@@ -1,12 +1,7 @@
 -- Laws of one hint: its clause is found in the store, and looked at. Assumes nothing.
-use Prim.Native.Nat.{ℕ, ◌+◌, ◌-◌, ◌*◌, ◌^◌, ◌<◌, ◌≤◌}
-use mathlib.Core.Path.{◌≡◌, refl, sym, ap, subst, ◌∙◌}
-use mathlib.Core.Logic.{⊎_elim}
-use mathlib.Core.List.{List, map}
-use native.Mathlib.Omega.{arith}
-use lib.ListN.{length, get_or, take, drop, length-map}
-use lib.Seq.{slice, length-slice, get_or-drop, get_or-take}
-use lib.Pow.{pow_mono, pow-add}
+use Rattle.std.proofs.Common.{ℕ, ◌+◌, ◌-◌, ◌*◌, ◌^◌, ◌<◌, ◌≤◌, ◌≡◌, refl, sym, ap, subst, ◌∙◌, ⊎_elim, List, map, arith, length, get_or, take, drop, get_or-drop, get_or-take, pow_mono, pow-add}
+use Rattle.std.proofs.Math.ListN.{length-map}
+use Rattle.std.proofs.Math.Seq.{slice, length-slice}
 use Rattle.rules.specs.Judging.{look_at}
 use Rattle.clauses.specs.Codes.{literal_of, half}
 use Rattle.clauses.specs.Store.{id_at, start_at, RoomFor, clause_at, live_of, Holds}

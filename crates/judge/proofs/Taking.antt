@@ -1,14 +1,9 @@
 -- Laws of taking hints: one hint, and the state between two hints. Assumes nothing.
-use Prim.Native.Nat.{ℕ, suc, ◌+◌, ◌-◌, ◌^◌, ◌<◌, ◌≤◌}
-use mathlib.Core.Path.{◌≡◌, refl, sym, ap, subst, ◌∙◌}
-use mathlib.Core.Logic.{inl}
-use mathlib.Core.Bool.{Bool, true, false, true≢false, false≢true}
-use mathlib.Core.List.{List, [], ◌∷◌, map}
-use mathlib.Core.Option.{none, some}
-use native.Mathlib.Omega.{arith}
-use native.Mathlib.Numerals.{add-one}
-use lib.ListN.{length, get_or, length-map}
-use lib.Seq.{slice, slice-cons, slice_empty, length-slice}
+use Rattle.std.proofs.Common.{ℕ, suc, ◌+◌, ◌-◌, ◌^◌, ◌<◌, ◌≤◌, ◌≡◌, refl, sym, ap, subst, ◌∙◌, inl, Bool, true, false, true≢false, List, [], ◌∷◌, map, arith, add-one, length, get_or}
+use Rattle.std.proofs.Math.Bool.{false≢true}
+use Rattle.std.proofs.Math.Option.{none, some}
+use Rattle.std.proofs.Math.ListN.{length-map}
+use Rattle.std.proofs.Math.Seq.{slice, slice-cons, slice_empty, length-slice}
 use Rattle.meaning.specs.Meaning.{Literal, Clause}
 use Rattle.rules.specs.Judging.{opposite, Live, find, hint_not_live, hint_not_forced, Trail, all_false, forces, neither, look_at, conflict, bad_hint, take_hints}
 use Rattle.rules.proofs.Literals.{opposite_twice}

@@ -1,7 +1,5 @@
 -- Small formulas, with and without a solution, so that a wrong definition is seen at once. Assumes nothing.
-use mathlib.Core.Path.{refl}
-use mathlib.Core.Logic.{inl, inr}
-use mathlib.Core.List.{[], ◌∷◌}
+use Rattle.std.proofs.Common.{refl, inl, inr, [], ◌∷◌}
 use Rattle.meaning.specs.Meaning.{pos, neg, Assignment, Solves, Unsolvable}
 use Rattle.meaning.proofs.Truth.{bool_cases}
 

@@ -1,11 +1,6 @@
 -- From answers to numbers. Assumes nothing.
-use Prim.Native.Nat.{ℕ, ◌≤◌}
-use mathlib.Core.Path.{◌≡◌, refl, ap}
-use mathlib.Core.Logic.{inl, inr, ⊎_elim}
-use mathlib.Core.List.{List}
-use mathlib.Core.Option.{some}
-use native.Mathlib.Omega.{arith}
-use lib.ListN.{length}
+use Rattle.std.proofs.Common.{ℕ, ◌≤◌, ◌≡◌, refl, ap, inl, inr, ⊎_elim, List, arith, length}
+use Rattle.std.proofs.Math.Option.{some}
 use Rattle.rules.specs.Answers.{answer_number, answer_step, verdict, Refuted}
 use Rattle.rules.specs.Answers.{Answer as Verdict}
 use Rattle.rules.proofs.Options.{some_inj, none-some}

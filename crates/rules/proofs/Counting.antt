@@ -1,9 +1,6 @@
 -- How many tokens a text can have: each takes a byte, and a blank stands between two. Assumes nothing.
-use Prim.Native.Nat.{ℕ, ◌+◌, ◌*◌, ◌≤◌}
-use mathlib.Core.Bool.{Bool, true, false}
-use mathlib.Core.List.{List, [], ◌∷◌}
-use native.Mathlib.Omega.{arith}
-use lib.ListN.{length, length-map}
+use Rattle.std.proofs.Common.{ℕ, ◌+◌, ◌*◌, ◌≤◌, Bool, true, false, List, [], ◌∷◌, arith, length}
+use Rattle.std.proofs.Math.ListN.{length-map}
 use Rattle.meaning.proofs.Truth.{bool_cases}
 use Rattle.rules.specs.Text.{is_blank, token, words_from, tokens}
 

@@ -1,12 +1,6 @@
 -- A number that is written in decimal is read as itself. Assumes nothing.
-use Prim.Native.Nat.{ℕ, zero, suc, ◌+◌, ◌/◌, ◌%◌, ◌≤◌, ◌<◌}
-use mathlib.Core.Path.{◌≡◌, ap, ◌∙◌}
-use mathlib.Core.Bool.{true}
-use mathlib.Core.List.{List, [], ◌∷◌}
-use mathlib.Core.Option.{some}
-use native.Mathlib.Omega.{arith}
-use borrow.Author.Tests.{ltb-true, ltb-false, le-leb, ne_eqb}
-use lib.Dec.{ltb}
+use Rattle.std.proofs.Common.{ℕ, zero, suc, ◌+◌, ◌/◌, ◌%◌, ◌≤◌, ◌<◌, ◌≡◌, ap, ◌∙◌, true, List, [], ◌∷◌, arith, ltb-true, ltb-false, le-leb, ne_eqb, ltb}
+use Rattle.std.proofs.Math.Option.{some}
 use Rattle.meaning.proofs.Truth.{bool_cases, both_and}
 use Rattle.rules.specs.Text.{is_digit, digits, positive, plus, minus, signed, same_bytes, token}
 use Rattle.rules.specs.Written.{decimal_onto, decimal}

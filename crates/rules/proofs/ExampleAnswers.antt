@@ -1,8 +1,8 @@
 -- The vectors of document 01, sections 6 and 7, and some beyond it, computed from the definitions. `says` gives the answer,
 -- `ends` the ground of a refusal as well. Assumes nothing.
 use Prim.Native.String.{String}
-use mathlib.Core.Path.{◌≡◌, refl}
-use mathlib.Core.Option.{none, some}
+use Rattle.std.proofs.Common.{◌≡◌, refl}
+use Rattle.std.proofs.Math.Option.{none, some}
 use Rattle.rules.specs.Tools.{bytes}
 use Rattle.rules.specs.Judging.{id_not_fresh, opposite_literals, hint_not_live, hint_not_forced, no_conflict, groups_dont_match, deletion_not_live}
 use Rattle.rules.specs.Answers.{

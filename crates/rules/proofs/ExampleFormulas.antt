@@ -1,9 +1,8 @@
 -- What is a formula and what is not, computed: the examples of document 01, section 3, its limits, and the points that
 -- docs/DECISIONS.md decides. Assumes nothing.
 use Prim.Native.String.{String}
-use mathlib.Core.Path.{◌≡◌, refl}
-use mathlib.Core.List.{[], ◌∷◌}
-use mathlib.Core.Option.{Option, none, some}
+use Rattle.std.proofs.Common.{◌≡◌, refl, [], ◌∷◌}
+use Rattle.std.proofs.Math.Option.{Option, none, some}
 use Rattle.meaning.specs.Meaning.{pos, neg, Formula}
 use Rattle.rules.specs.Tools.{bytes}
 use Rattle.rules.specs.Formula.{header, read_formula}

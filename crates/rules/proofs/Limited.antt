@@ -1,14 +1,7 @@
 -- A formula that is read is within the limits: V and the number of clauses, and each literal's variable is one of 1 to V.
 -- Assumes nothing.
-use Prim.Native.Nat.{ℕ, zero, suc, ◌≤◌}
-use mathlib.Core.Path.{◌≡◌, refl, ap}
-use mathlib.Core.Bool.{false}
-use mathlib.Core.List.{List, [], ◌∷◌}
-use mathlib.Core.Option.{some}
-use native.Mathlib.Omega.{arith}
-use borrow.Author.Tests.{leb-true}
-use lib.Dec.{leb}
-use lib.ListN.{length}
+use Rattle.std.proofs.Common.{ℕ, zero, suc, ◌≤◌, ◌≡◌, refl, ap, false, List, [], ◌∷◌, arith, leb-true, leb, length}
+use Rattle.std.proofs.Math.Option.{some}
 use Rattle.meaning.specs.Meaning.{Literal, pos, neg, Clause, Formula, variable, Within, AllWithin}
 use Rattle.meaning.proofs.Truth.{bool_cases}
 use Rattle.rules.specs.Tools.{bytes, ◌>>=◌}

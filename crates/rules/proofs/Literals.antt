@@ -1,9 +1,6 @@
 -- Laws of literals: comparing them, and what an assignment makes of them and of their opposites. Assumes nothing.
-use mathlib.Core.Path.{◌≡◌, refl, ap}
-use mathlib.Core.Logic.{⊎_elim}
-use mathlib.Core.Bool.{true, false, not, false≢true}
-use mathlib.Core.List.{[], ◌∷◌}
-use borrow.Author.Tests.{eqb-true, eq-eqb}
+use Rattle.std.proofs.Common.{◌≡◌, refl, ap, ⊎_elim, true, false, not, [], ◌∷◌, eqb-true, eq-eqb}
+use Rattle.std.proofs.Math.Bool.{false≢true}
 use Rattle.meaning.specs.Meaning.{Literal, pos, neg, Clause, Assignment, holds, satisfies}
 use Rattle.meaning.proofs.Truth.{bool_cases, clash, or_cases, or_left, or_right}
 use Rattle.rules.specs.Judging.{opposite, same_literal, among}

@@ -1,9 +1,6 @@
 -- Laws of what may fail, in the forms in which a proof takes it apart. Assumes nothing.
-use Prim.Native.Nat.{ℕ}
-use mathlib.Core.Path.{◌≡◌, refl}
-use mathlib.Core.Bool.{Bool, true, false}
-use mathlib.Core.Option.{Option, none, some}
-use native.Mathlib.Omega.{arith}
+use Rattle.std.proofs.Common.{ℕ, ◌≡◌, refl, Bool, true, false, arith}
+use Rattle.std.proofs.Math.Option.{Option, none, some}
 use Rattle.rules.specs.Tools.{◌>>=◌, only}
 
 pub none-some : {A X : Type 0} {a : A} → none ≡ some a → X

@@ -1,13 +1,6 @@
 -- A formula that is written out and read again is the same, clause by clause and literal by literal. Assumes nothing.
-use Prim.Native.Nat.{ℕ, zero, suc, ◌≤◌}
-use mathlib.Core.Path.{◌≡◌, refl, ap, ◌∙◌}
-use mathlib.Core.Bool.{false}
-use mathlib.Core.List.{List, [], ◌∷◌, ◌++◌, append_assoc}
-use mathlib.Core.Option.{some}
-use native.Mathlib.Omega.{arith}
-use borrow.Author.Tests.{le-leb, ne_eqb, eq-eqb}
-use lib.Dec.{eqb}
-use lib.ListN.{length}
+use Rattle.std.proofs.Common.{ℕ, zero, suc, ◌≤◌, ◌≡◌, refl, ap, ◌∙◌, false, List, [], ◌∷◌, ◌++◌, append_assoc, arith, le-leb, ne_eqb, eq-eqb, eqb, length}
+use Rattle.std.proofs.Math.Option.{some}
 use Rattle.meaning.specs.Meaning.{Literal, pos, neg, Clause, Formula, variable, Within, AllWithin}
 use Rattle.rules.specs.Tools.{bytes}
 use Rattle.rules.specs.Limits.{max_variable, max_clauses}

@@ -1,11 +1,7 @@
 -- The run over a proof's steps: a step takes tokens, so the fuel does not matter; an unreadable step is found before it is
 -- judged; and every state that a run comes to is orderly. Assumes nothing.
-use Prim.Native.Nat.{ℕ, zero, suc, ◌+◌, ◌<◌, ◌≤◌}
-use mathlib.Core.Path.{◌≡◌, refl}
-use mathlib.Core.List.{List, [], ◌∷◌}
-use mathlib.Core.Option.{Option, none, some}
-use native.Mathlib.Omega.{arith}
-use lib.ListN.{length}
+use Rattle.std.proofs.Common.{ℕ, zero, suc, ◌+◌, ◌<◌, ◌≤◌, ◌≡◌, refl, List, [], ◌∷◌, arith, length}
+use Rattle.std.proofs.Math.Option.{Option, none, some}
 use Rattle.meaning.specs.Meaning.{Formula}
 use Rattle.meaning.proofs.Truth.{bool_cases}
 use Rattle.rules.specs.Tools.{◌>>=◌}

@@ -1,16 +1,9 @@
 -- Whoever verifies is right: if the verdict is `verified`, at whatever step, the formula is readable and has no solution.
 -- The argument: while some assignment satisfies all live clauses, no step that is accepted takes the last such assignment
 -- away, and no accepted step can add the empty clause, which no assignment satisfies. Assumes nothing.
-use Prim.Native.Nat.{ℕ, zero, suc}
-use mathlib.Core.Path.{◌≡◌, refl, sym, ap, subst, ◌∙◌}
-use mathlib.Core.Logic.{◌⊎◌, inl, inr, ⊎_elim}
-use mathlib.Core.Bool.{true, false, ◌||◌, false≢true}
-use mathlib.Core.List.{List, [], ◌∷◌, ◌++◌, map, append-nil}
-use mathlib.Core.Option.{Option, none, some}
-use native.Mathlib.Omega.{arith}
-use borrow.Author.Tests.{eqb-true, eq-eqb}
-use lib.Dec.{eqb, ltb}
-use lib.ListN.{length}
+use Rattle.std.proofs.Common.{ℕ, zero, suc, ◌≡◌, refl, sym, ap, subst, ◌∙◌, ◌⊎◌, inl, inr, ⊎_elim, true, false, ◌||◌, List, [], ◌∷◌, ◌++◌, map, append-nil, arith, eqb-true, eq-eqb, eqb, ltb, length}
+use Rattle.std.proofs.Math.Bool.{false≢true}
+use Rattle.std.proofs.Math.Option.{Option, none, some}
 use Rattle.meaning.specs.Meaning.{Literal, pos, neg, Clause, Formula, Assignment, holds, satisfies, satisfies_all, Unsolvable}
 use Rattle.meaning.proofs.Truth.{bool_cases, clash, or_cases, or_left, or_right, or_neither, and_both}
 use Rattle.meaning.proofs.Solutions.{no_assignment_solves}

@@ -1,12 +1,8 @@
 -- Judging an addition, and what an accepted one makes of the store. Assumes nothing.
-use Prim.Native.Nat.{ℕ, ◌+◌, ◌-◌, ◌*◌, ◌<◌, ◌≤◌}
-use mathlib.Core.Path.{◌≡◌, refl, sym, ap, ◌∙◌}
-use mathlib.Core.Logic.{inl, inr, ⊎_elim}
-use mathlib.Core.List.{List, [], ◌∷◌, ◌++◌, map}
-use mathlib.Core.Option.{none, some}
-use native.Mathlib.Omega.{arith}
-use lib.ListN.{length, get_or, take, drop, length-map, length-drop}
-use lib.Seq.{slice, get_or-take, length-take-le, take-take}
+use Rattle.std.proofs.Common.{ℕ, ◌+◌, ◌-◌, ◌*◌, ◌<◌, ◌≤◌, ◌≡◌, refl, sym, ap, ◌∙◌, inl, inr, ⊎_elim, List, [], ◌∷◌, ◌++◌, map, arith, length, get_or, take, drop, length-drop, get_or-take, length-take-le, take-take}
+use Rattle.std.proofs.Math.Option.{none, some}
+use Rattle.std.proofs.Math.ListN.{length-map}
+use Rattle.std.proofs.Math.Seq.{slice}
 use Rattle.meaning.specs.Meaning.{Clause}
 use Rattle.rules.specs.Steps.{Hint, add}
 use Rattle.rules.specs.Judging.{Live, Ground, State, refused, adds_empty, goes_on, addition_fault, judge}

@@ -1,10 +1,5 @@
 -- Deletions, and room that is given back. Assumes nothing.
-use Prim.Native.Nat.{ℕ, ◌+◌, ◌*◌, ◌/◌, ◌^◌, ◌<◌, ◌≤◌}
-use mathlib.Core.Path.{◌≡◌, refl, sym, ap, ◌∙◌}
-use mathlib.Core.List.{List, map}
-use native.Mathlib.Omega.{arith}
-use lib.ListN.{length, take}
-use lib.Seq.{length-take-le}
+use Rattle.std.proofs.Common.{ℕ, ◌+◌, ◌*◌, ◌/◌, ◌^◌, ◌<◌, ◌≤◌, ◌≡◌, refl, sym, ap, ◌∙◌, List, map, arith, length, take, length-take-le}
 use Rattle.rules.specs.Judging.{Live, goes_on, judge_deletion, judge}
 use Rattle.clauses.specs.Codes.{half}
 use Rattle.clauses.specs.Counting.{Counts}

@@ -1,7 +1,5 @@
 -- What reading a step costs, and what comes then. Assumes nothing.
-use Prim.Native.Nat.{ℕ, ◌+◌, ◌≤◌}
-use mathlib.Core.Path.{◌≡◌}
-use native.Mathlib.Omega.{arith}
+use Rattle.std.proofs.Common.{ℕ, ◌+◌, ◌≤◌, ◌≡◌, arith}
 use Rattle.clauses.specs.Counting.{Counts}
 use Rattle.clauses.proofs.Counting.{reaches_same, reaches_less, reaches_plus}
 use Rattle.stepping.specs.Stepping.{Spent}

@@ -1,12 +1,6 @@
 -- Taking one step: what was read is judged, and what that comes to for the run. Assumes nothing.
-use Prim.Native.Nat.{ℕ, ◌+◌, ◌-◌, ◌*◌, ◌^◌, ◌<◌, ◌≤◌}
-use mathlib.Core.Path.{◌≡◌, refl, sym, ap, ◌∙◌}
-use mathlib.Core.Logic.{inl, inr, ⊎_elim}
-use mathlib.Core.List.{List, map}
-use mathlib.Core.Option.{some}
-use native.Mathlib.Omega.{arith}
-use native.Mathlib.Nat.{add-mul, mul_comm, mul-le-mul}
-use lib.ListN.{length, get_or, take, drop, length-drop}
+use Rattle.std.proofs.Common.{ℕ, ◌+◌, ◌-◌, ◌*◌, ◌^◌, ◌<◌, ◌≤◌, ◌≡◌, refl, sym, ap, ◌∙◌, inl, inr, ⊎_elim, List, map, arith, add-mul, mul_comm, mul-le-mul, length, get_or, take, drop, length-drop}
+use Rattle.std.proofs.Math.Option.{some}
 use Rattle.rules.specs.Text.{tokens}
 use Rattle.rules.specs.Steps.{Step, add, delete}
 use Rattle.rules.specs.Judging.{Live, State, judge}

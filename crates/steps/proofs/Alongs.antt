@@ -1,12 +1,6 @@
 -- Short numbers taken one after the other: each is a token that `feed` would have taken in the same way, as a literal or as a
 -- hint. Assumes nothing.
-use Prim.Native.Nat.{ℕ, ◌+◌, ◌*◌, ◌/◌, ◌%◌, ◌≤◌, ◌<◌}
-use mathlib.Core.Path.{◌≡◌, refl, sym, ap, subst, ◌∙◌}
-use mathlib.Core.Logic.{⊎_elim}
-use mathlib.Core.List.{List}
-use native.Mathlib.Omega.{arith}
-use borrow.Author.Tests.{le-leb}
-use lib.ListN.{length, drop, set, length-set}
+use Rattle.std.proofs.Common.{ℕ, ◌+◌, ◌*◌, ◌/◌, ◌%◌, ◌≤◌, ◌<◌, ◌≡◌, refl, sym, ap, subst, ◌∙◌, ⊎_elim, List, arith, le-leb, length, drop, set, length-set}
 use Rattle.rules.specs.Limits.{max_variable, max_id}
 use Rattle.text.specs.Scan.{Scans, Short, ShortNumber}
 use Rattle.text.specs.declared.Token.{Token as Found}

@@ -1,14 +1,7 @@
 -- Tokens as codes: what an item says of the token that it came from, and when one is stored. Assumes nothing.
-use Prim.Native.Nat.{ℕ, zero, suc, ◌+◌, ◌*◌, ◌≤◌, ◌<◌, min}
-use mathlib.Core.Path.{◌≡◌, refl, sym, ap, subst, ◌∙◌}
-use mathlib.Core.Logic.{inl, inr}
-use mathlib.Core.Bool.{Bool, true, false}
-use mathlib.Core.List.{List}
-use mathlib.Core.Option.{Option, none, some}
-use native.Mathlib.Omega.{arith}
-use borrow.Author.Tests.{le-leb, lt-leb, leb-true}
-use lib.Dec.{leb}
-use lib.ListN.{length, set, length-set}
+use Rattle.std.proofs.Common.{ℕ, zero, suc, ◌+◌, ◌*◌, ◌≤◌, ◌<◌, min, ◌≡◌, refl, sym, ap, subst, ◌∙◌, inl, inr, Bool, true, false, List, arith, le-leb, leb-true, leb, length, set, length-set}
+use Rattle.std.proofs.Math.Option.{Option, none, some}
+use borrow.Author.Tests.{lt-leb}
 use Rattle.meaning.specs.Meaning.{pos, neg}
 use Rattle.meaning.proofs.Truth.{bool_cases, clash}
 use Rattle.rules.specs.Tools.{only}

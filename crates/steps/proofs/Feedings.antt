@@ -1,15 +1,7 @@
 -- What one token more makes of a step that is read in part, by the functions of src/feeding.rt: the codes that they store
 -- stand for what `advance` says. Assumes nothing.
-use Prim.Native.Nat.{ℕ, ◌+◌, ◌*◌, ◌/◌, ◌≤◌, ◌<◌}
-use mathlib.Core.Path.{◌≡◌, refl, sym, ap, subst, ◌∙◌}
-use mathlib.Core.Logic.{inl, inr, ⊎_elim}
-use mathlib.Core.Bool.{Bool, true, false}
-use mathlib.Core.List.{List, [], ◌∷◌, ◌++◌, map}
-use mathlib.Core.Option.{Option, none, some}
-use native.Mathlib.Omega.{arith}
-use borrow.Author.Tests.{leb-true}
-use lib.Dec.{leb}
-use lib.ListN.{length, set, take-append-drop}
+use Rattle.std.proofs.Common.{ℕ, ◌+◌, ◌*◌, ◌/◌, ◌≤◌, ◌<◌, ◌≡◌, refl, sym, ap, subst, ◌∙◌, inl, inr, ⊎_elim, Bool, true, false, List, [], ◌∷◌, ◌++◌, map, arith, leb-true, leb, length, set, take-append-drop}
+use Rattle.std.proofs.Math.Option.{Option, none, some}
 use Rattle.meaning.proofs.Truth.{bool_cases}
 use Rattle.rules.specs.Limits.{max_variable, max_id}
 use Rattle.rules.specs.Text.{Token, Proper, nought, plus, minus, letter_d, other, is_letter_d, literal}

@@ -1,14 +1,7 @@
 -- Reading a step from a text: the state of the reader between two tokens, and what a token makes of it. Assumes nothing.
-use Prim.Native.Nat.{ℕ, ◌+◌, ◌≤◌, ◌<◌}
-use mathlib.Core.Path.{◌≡◌, refl, sym, ap, subst, ◌∙◌}
-use mathlib.Core.Logic.{◌⊎◌, inl, inr, ⊎_elim}
-use mathlib.Core.Bool.{Bool, true, false}
-use mathlib.Core.List.{List, [], ◌∷◌, ◌++◌, map, append_assoc}
-use mathlib.Core.Option.{none}
-use native.Mathlib.Omega.{arith}
-use borrow.Author.Tests.{ltb-true, ltb-false}
-use lib.Dec.{ltb}
-use lib.ListN.{length, drop, length-append, length-drop, length-map, take-append-drop}
+use Rattle.std.proofs.Common.{ℕ, ◌+◌, ◌≤◌, ◌<◌, ◌≡◌, refl, sym, ap, subst, ◌∙◌, ◌⊎◌, inl, inr, ⊎_elim, Bool, true, false, List, [], ◌∷◌, ◌++◌, map, append_assoc, arith, ltb-true, ltb-false, ltb, length, drop, length-append, length-drop, take-append-drop}
+use Rattle.std.proofs.Math.Option.{none}
+use Rattle.std.proofs.Math.ListN.{length-map}
 use Rattle.meaning.proofs.Truth.{bool_cases, clash}
 use Rattle.rules.specs.Text.{Token, tokens}
 use Rattle.rules.specs.Steps.{add, delete, read_step}

@@ -1,6 +1,6 @@
 -- A word at a place of a text as a token, by its first byte. Assumes nothing.
 use Rattle.std.proofs.Common.{◌≡◌, ℕ, ◌+◌, ◌<◌, ◌≤◌, min, true, false, List, [], ◌∷◌, length, get_or, drop, sym, refl, ap, ◌∙◌, arith, drop-drop, ne_eqb}
-use mathlib.Core.Option.{Option, none, some}
+use Rattle.std.proofs.Math.Option.{Option, none, some}
 use Rattle.meaning.proofs.Truth.{clash}
 use Rattle.rules.specs.Text.{is_blank, positive, signed, same_bytes, token, word}
 use Rattle.rules.proofs.Words.{positive_above_0}

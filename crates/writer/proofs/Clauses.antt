@@ -1,11 +1,5 @@
 -- The text of a clause, literal by literal. Assumes nothing.
-use Prim.Native.Nat.{ℕ, ◌+◌, ◌-◌, ◌*◌, ◌≤◌, ◌<◌}
-use mathlib.Core.Path.{◌≡◌}
-use mathlib.Core.List.{List, [], ◌∷◌, map}
-use native.Mathlib.Numerals.{add-one}
-use native.Mathlib.Omega.{arith}
-use lib.ListN.{length, drop, get_or, drop_of_length-le}
-use lib.Seq.{drop-cons}
+use Rattle.std.proofs.Common.{ℕ, ◌+◌, ◌-◌, ◌*◌, ◌≤◌, ◌<◌, ◌≡◌, List, [], ◌∷◌, map, add-one, arith, length, drop, get_or, drop_of_length-le, drop-cons}
 use Rattle.rules.specs.Written.{write_literal, write_clause}
 use Rattle.clauses.specs.Codes.{literal_of}
 use Rattle.writer.specs.Text.{Wrote, Room, Counted, WroteCounted}

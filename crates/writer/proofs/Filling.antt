@@ -1,11 +1,6 @@
 -- Digits that are filled in from the back. Assumes nothing.
-use Prim.Native.Nat.{ℕ, ◌+◌, ◌-◌, ◌/◌, ◌%◌, ◌≤◌, ◌<◌}
-use mathlib.Core.Path.{◌≡◌, refl, sym, ap, ◌∙◌}
-use mathlib.Core.List.{List, [], ◌∷◌, ◌++◌, append_assoc, append-nil}
-use native.Mathlib.Numerals.{add-one}
-use native.Mathlib.Omega.{arith}
-use lib.ListN.{length, take, drop, set, get_or, length-set, take-append-drop}
-use lib.Seq.{take-suc, set_at, length-take-le}
+use Rattle.std.proofs.Common.{ℕ, ◌+◌, ◌-◌, ◌/◌, ◌%◌, ◌≤◌, ◌<◌, ◌≡◌, refl, sym, ap, ◌∙◌, List, [], ◌∷◌, ◌++◌, append_assoc, append-nil, add-one, arith, length, take, drop, set, get_or, length-set, take-append-drop, take-suc, length-take-le}
+use Rattle.std.proofs.Math.Seq.{set_at}
 use Rattle.rules.specs.Written.{decimal}
 use Rattle.writer.specs.Text.{Wrote, Filled}
 use Rattle.writer.proofs.Digits.{decimal_small, decimal_large, decimal-some, length_small, length_large}

@@ -1,10 +1,6 @@
 -- The first line of a formula's text. Assumes nothing.
-use Prim.Native.Nat.{ℕ, ◌+◌, ◌-◌, ◌*◌, ◌≤◌, ◌<◌}
-use mathlib.Core.Path.{◌≡◌, refl, sym, ap, ◌∙◌}
-use mathlib.Core.List.{List, [], ◌∷◌, ◌++◌, append_assoc}
-use native.Mathlib.Omega.{arith}
-use lib.ListN.{length, set, length-append}
-use lib.Seq.{sets-eq}
+use Rattle.std.proofs.Common.{ℕ, ◌+◌, ◌-◌, ◌*◌, ◌≤◌, ◌<◌, ◌≡◌, refl, sym, ap, ◌∙◌, List, [], ◌∷◌, ◌++◌, append_assoc, arith, length, set, length-append}
+use Rattle.std.proofs.Math.Seq.{sets-eq}
 use Rattle.rules.specs.Written.{decimal, write_clauses, write_formula}
 use Rattle.clauses.specs.Store.{clauses_of}
 use Rattle.writer.specs.Text.{Sized, Wrote, Room, WroteCounted, line_start, first_line, formula_of, length_of, WroteFormula, LineDigits}

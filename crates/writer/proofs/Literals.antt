@@ -1,10 +1,5 @@
 -- The text of a literal, by its code. Assumes nothing.
-use Prim.Native.Nat.{ℕ, ◌+◌, ◌/◌, ◌%◌}
-use mathlib.Core.Path.{◌≡◌, ap}
-use mathlib.Core.List.{◌∷◌, []}
-use native.Mathlib.Omega.{arith}
-use lib.ListN.{length}
-use borrow.Author.Tests.{eq-eqb, ne_eqb}
+use Rattle.std.proofs.Common.{ℕ, ◌+◌, ◌/◌, ◌%◌, ◌≡◌, ap, ◌∷◌, [], arith, length, eq-eqb, ne_eqb}
 use Rattle.rules.specs.Written.{decimal, write_literal}
 use Rattle.writer.specs.Text.{Sized}
 use Rattle.writer.proofs.Texts.{Parts}

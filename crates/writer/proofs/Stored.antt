@@ -1,13 +1,7 @@
 -- The clauses of the store, one by one, and their texts. Assumes nothing.
-use Prim.Native.Nat.{ℕ, zero, suc, ◌+◌, ◌-◌, ◌*◌, ◌≤◌, ◌<◌}
-use mathlib.Core.Path.{◌≡◌, sym, ap, ◌∙◌}
-use mathlib.Core.List.{List, [], ◌∷◌, ◌++◌, map}
-use native.Mathlib.Numerals.{add-one}
-use native.Mathlib.Omega.{arith}
-use borrow.Author.Tests.{ltb-true, ltb-false}
-use lib.Dec.{ltb}
-use lib.ListN.{length, take, drop, get_or, drop_of_length-le, get_or-append}
-use lib.Seq.{drop-cons, get_or_at}
+use Rattle.std.proofs.Common.{ℕ, zero, suc, ◌+◌, ◌-◌, ◌*◌, ◌≤◌, ◌<◌, ◌≡◌, sym, ap, ◌∙◌, List, [], ◌∷◌, ◌++◌, map, add-one, arith, ltb-true, ltb-false, ltb, length, take, drop, get_or, drop_of_length-le, drop-cons}
+use Rattle.std.proofs.Math.ListN.{get_or-append}
+use Rattle.std.proofs.Math.Seq.{get_or_at}
 use Rattle.meaning.proofs.Truth.{bool_cases}
 use Rattle.rules.specs.Written.{write_clause, write_clauses}
 use Rattle.clauses.specs.Codes.{literal_of}

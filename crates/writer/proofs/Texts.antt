@@ -1,11 +1,6 @@
 -- Texts in a slice, and how they join. Assumes nothing.
-use Prim.Native.Nat.{ℕ, ◌+◌, ◌<◌}
-use mathlib.Core.Path.{◌≡◌, refl, sym, ap, ◌∙◌}
-use mathlib.Core.List.{List, [], ◌∷◌, ◌++◌, append_assoc}
-use native.Mathlib.Numerals.{add-one}
-use native.Mathlib.Omega.{arith}
-use lib.ListN.{length, take, drop, set, length-append, length-drop, take-append-drop}
-use lib.Seq.{take_at, drop_at, drop-drop, set_split, length-take-le}
+use Rattle.std.proofs.Common.{ℕ, ◌+◌, ◌<◌, ◌≡◌, refl, sym, ap, ◌∙◌, List, [], ◌∷◌, ◌++◌, append_assoc, add-one, arith, length, take, drop, set, length-append, length-drop, take-append-drop, take_at, drop_at, drop-drop, length-take-le}
+use Rattle.std.proofs.Math.Seq.{set_split}
 use Rattle.writer.specs.Text.{Wrote, Room, WroteCounted}
 
 -- Nothing was written.

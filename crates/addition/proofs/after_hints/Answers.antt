@@ -1,6 +1,6 @@
 -- `after_hints` meets its contract: K is empty, or its groups are not those that they must be, or they are judged. Assumes
 -- nothing.
-use native.Mathlib.Omega.{arith}
+use Rattle.std.proofs.Common.{arith}
 use Rattle.addition.proofs.Adding.{rest_empty, rest_known, rest_all, rest_differ}
 use Rattle.addition.proofs.after_hints.Goals as goal
 

@@ -1,7 +1,5 @@
 -- `judge_addition` meets its contract: the id is not fresh, or the other rules decide. Assumes nothing.
-use mathlib.Core.Path.{sym}
-use lib.Seq.{length-take-le}
-use native.Mathlib.Omega.{arith}
+use Rattle.std.proofs.Common.{sym, length-take-le, arith}
 use Rattle.addition.proofs.Adding.{addition_stale, addition_fresh}
 use Rattle.addition.proofs.judge_addition.Goals as goal
 

@@ -1,5 +1,5 @@
 -- `judge_clause` meets its contract: what was marked stands on the tape, and is taken back. Assumes nothing.
-use native.Mathlib.Omega.{arith}
+use Rattle.std.proofs.Common.{arith}
 use Rattle.addition.proofs.Adding.{clause_known, clause_begun, clause_clausal, clause-room, clause_undoable, clause_judged}
 use Rattle.addition.proofs.judge_clause.Goals as goal
 

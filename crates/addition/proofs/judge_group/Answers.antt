@@ -1,7 +1,6 @@
 -- `judge_group` meets its contract: the clause of the group is found and its group judged there, or it is not live. Assumes
 -- nothing.
-use mathlib.Core.Path.{ap}
-use native.Mathlib.Omega.{arith}
+use Rattle.std.proofs.Common.{ap, arith}
 use Rattle.clauses.specs.Finding.{turns_of}
 use Rattle.judge.proofs.Hinting.{ready_lookable}
 use Rattle.addition.proofs.Grouping.{group_span, one_placed, one_turns, one_judged, one_lacks}

@@ -1,6 +1,4 @@
-use mathlib.Core.Path.{◌∙◌, ap}
-use native.Mathlib.Omega.{arith}
-use lib.ListN.{length}
+use Rattle.std.proofs.Common.{◌∙◌, ap, arith, length}
 use Rattle.addition.proofs.Grouping.{going_start, going_fit, going_on, going_stop, going_end}
 use Rattle.addition.proofs.judge_groups.Goals as goal
 

@@ -1,7 +1,6 @@
 -- `judge_groups` meets its contract. The loop's invariant: the marks are what they were, and the groups from `at` on say what
 -- all say (`Going`). The measure is what is left of the hints. Assumes nothing.
-use Prim.Native.Nat.{◌-◌}
-use lib.ListN.{length}
+use Rattle.std.proofs.Common.{◌-◌, length}
 use Rattle.clauses.specs.Store.{live_of}
 use Rattle.addition.proofs.Grouping.{Going}
 use Rattle.addition.proofs.judge_groups.Given as goal

@@ -1,5 +1,5 @@
 -- `judge_hints` meets its contract: a conflict or a bad hint settles it, else rule 4 does. Assumes nothing.
-use native.Mathlib.Omega.{arith}
+use Rattle.std.proofs.Common.{arith}
 use Rattle.addition.proofs.Grouping.{group_span}
 use Rattle.addition.proofs.Adding.{hints_fit, hints_clausal, hints_ended, hints_other}
 use Rattle.addition.proofs.judge_hints.Goals as goal

@@ -1,6 +1,6 @@
 -- `judge_there` meets its contract: what was marked for the group stands on the tape from `t` on, and is taken back. Assumes
 -- nothing.
-use native.Mathlib.Omega.{arith}
+use Rattle.std.proofs.Common.{arith}
 use Rattle.judge.proofs.Hinting.{there_known}
 use Rattle.addition.proofs.Grouping.{place_ready, place_undoable, place_room, place_judged}
 use Rattle.addition.proofs.judge_there.Goals as goal

@@ -1,4 +1,4 @@
-use native.Mathlib.Omega.{arith}
+use Rattle.std.proofs.Common.{arith}
 use Rattle.assignment.proofs.Looking.{looking_start, looking_two, looking_none, looking_below, looking_one, looking_more}
 use Rattle.assignment.proofs.look_at.Goals as goal
 

@@ -1,7 +1,6 @@
 -- `assignment::look_at` meets its contract. The loop's invariant: the two numbers that are kept of the literals before i, and the
 -- literals from i on, say what the whole clause says (`Looking`). The measure is what is left of the clause. Assumes nothing.
-use Prim.Native.Nat.{◌-◌}
-use lib.ListN.{length}
+use Rattle.std.proofs.Common.{◌-◌, length}
 use Rattle.assignment.proofs.Looking.{Looking}
 use Rattle.assignment.proofs.look_at.Given as goal
 

@@ -1,6 +1,6 @@
 -- `assignment::undo` meets its contract. The loop's invariant: the marks differ from what they were only at the numbers on
 -- the tape from i on (`Undoing`). The measure is what is left of the tape. Assumes nothing.
-use Prim.Native.Nat.{◌-◌}
+use Rattle.std.proofs.Common.{◌-◌}
 use Rattle.assignment.proofs.Marking.{Undoing}
 use Rattle.assignment.proofs.undo.Given as goal
 

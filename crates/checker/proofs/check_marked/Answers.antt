@@ -1,6 +1,5 @@
 -- `check_marked` meets its contract, by what reading the formula came to. Assumes nothing.
-use mathlib.Core.Path.{◌∙◌}
-use native.Mathlib.Omega.{arith}
+use Rattle.std.proofs.Common.{◌∙◌, arith}
 use Rattle.checker.proofs.Answering.{marked_begun, marked_stored, marked-unread, marked_short}
 use Rattle.checker.proofs.check_marked.Goals as goal
 

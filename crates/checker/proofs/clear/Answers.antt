@@ -1,4 +1,4 @@
-use native.Mathlib.Omega.{arith}
+use Rattle.std.proofs.Common.{arith}
 use Rattle.checker.proofs.Clearing.{clearing_start, clearing_on, clearing_end}
 use Rattle.checker.proofs.clear.Goals as goal
 

@@ -1,6 +1,5 @@
 -- `clear` meets its contract: the first i marks are 0. The measure is what is left of them. Assumes nothing.
-use Prim.Native.Nat.{◌-◌}
-use lib.ListN.{length}
+use Rattle.std.proofs.Common.{◌-◌, length}
 use Rattle.checker.proofs.Clearing.{Clearing}
 use Rattle.checker.proofs.clear.Given as goal
 

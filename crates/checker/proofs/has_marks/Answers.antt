@@ -1,6 +1,5 @@
 -- `has_marks` meets its contract: there is no literal, or the greatest decides. Assumes nothing.
-use mathlib.Core.Logic.{inl, inr}
-use native.Mathlib.Omega.{arith}
+use Rattle.std.proofs.Common.{inl, inr, arith}
 use Rattle.checker.proofs.has_marks.Goals as goal
 
 pub returns-then-used-eq0 : goal.returns-then-used-eq0

@@ -1,5 +1,4 @@
-use mathlib.Core.Path.{◌∙◌}
-use native.Mathlib.Omega.{arith}
+use Rattle.std.proofs.Common.{◌∙◌, arith}
 use Rattle.deletion.proofs.Removing.{taking_start, taking_one, taking_on, taking_missing, taking_done, one-long}
 use Rattle.deletion.proofs.delete_all.Goals as goal
 

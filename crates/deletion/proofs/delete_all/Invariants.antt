@@ -1,7 +1,6 @@
 -- `deletion::delete_all` meets its contract. The loop's invariant: the first i ids were taken, and what is left says what all
 -- say (`Taking`). The measure is how many ids are left. Assumes nothing.
-use Prim.Native.Nat.{◌-◌}
-use lib.ListN.{take}
+use Rattle.std.proofs.Common.{◌-◌, take}
 use Rattle.deletion.proofs.Removing.{Taking}
 use Rattle.deletion.proofs.delete_all.Given as goal
 

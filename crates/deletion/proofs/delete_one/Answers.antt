@@ -1,6 +1,6 @@
 -- `deletion::delete_one` meets its contract: what is looked up is what is deleted, and a lookup takes at most 63 turns.
 -- Assumes nothing.
-use native.Mathlib.Omega.{arith}
+use Rattle.std.proofs.Common.{arith}
 use Rattle.deletion.proofs.Removing.{one_searchable, at_removable, at_spent, at_gone, nowhere_spent, nowhere_missing}
 use Rattle.deletion.proofs.delete_one.Goals as goal
 

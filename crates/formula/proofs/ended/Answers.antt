@@ -1,5 +1,5 @@
 -- `formula::ended` meets its contract: one answer for each kind of token. Assumes nothing.
-use mathlib.Core.Path.{refl}
+use Rattle.std.proofs.Common.{refl}
 use Rattle.text.specs.declared.Token.TheVariants.{Nought, Plus, Minus, LetterD, Other}
 use Rattle.formula.proofs.Wholes.{ended_yes, ended_no}
 use Rattle.formula.proofs.ended.Goals as goal

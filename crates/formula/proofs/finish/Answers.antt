@@ -1,6 +1,5 @@
 -- `formula::finish` meets its contract. Assumes nothing.
-use mathlib.Core.Path.{ap}
-use Prim.Native.Nat.{ℕ, ◌/◌}
+use Rattle.std.proofs.Common.{ap, ℕ, ◌/◌}
 use Rattle.formula.proofs.Wholes.{finish_bad, finish_good}
 use Rattle.formula.proofs.finish.Goals as goal
 

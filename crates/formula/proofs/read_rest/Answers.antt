@@ -1,5 +1,5 @@
 -- `formula::read_rest` meets its contract: an empty store, the clauses, the end. Assumes nothing.
-use native.Mathlib.Omega.{arith}
+use Rattle.std.proofs.Common.{arith}
 use Rattle.clauses.proofs.Holding.{holds_empty}
 use Rattle.formula.proofs.Wholes.{rest_short, rest_unreadable, rest_too_short, rest_fits, rest_finished}
 use Rattle.formula.proofs.read_rest.Goals as goal

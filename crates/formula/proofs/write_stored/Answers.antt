@@ -1,6 +1,5 @@
 -- `formula::write_stored` meets its contract: the length first, and then the bytes. Assumes nothing.
-use native.Mathlib.Omega.{arith}
-use lib.ListN.{length}
+use Rattle.std.proofs.Common.{arith, length}
 use Rattle.writer.specs.Text.{length_of}
 use Rattle.writer.proofs.Sums.{whole_says, too_long-says}
 use Rattle.formula.proofs.Writings.{stored_whole, stored_long}

@@ -1,7 +1,6 @@
 -- `groups::contains` meets its contract. The loop's invariant: `found` says whether the literal is among the first i. The
 -- measure is what is left of the clause. Assumes nothing.
-use Prim.Native.Nat.{◌-◌}
-use lib.ListN.{length}
+use Rattle.std.proofs.Common.{◌-◌, length}
 use Rattle.groups.proofs.Among.{Seeking}
 use Rattle.groups.proofs.contains.Given as goal
 

@@ -1,6 +1,6 @@
 -- `groups::examine` meets its contract: the clause is the part of the literals that begins and ends where the heads say.
 -- Assumes nothing.
-use native.Mathlib.Omega.{arith}
+use Rattle.std.proofs.Common.{arith}
 use Rattle.groups.proofs.Walking.{examined_deleted, examined_live}
 use Rattle.groups.proofs.examine.Goals as goal
 

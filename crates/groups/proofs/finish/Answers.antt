@@ -1,5 +1,5 @@
 -- `groups::finish` meets its contract. Assumes nothing.
-use native.Mathlib.Omega.{arith}
+use Rattle.std.proofs.Common.{arith}
 use Rattle.groups.proofs.Walking.{finish_more, finish-none}
 use Rattle.groups.proofs.finish.Goals as goal
 

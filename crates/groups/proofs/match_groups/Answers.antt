@@ -1,4 +1,4 @@
-use native.Mathlib.Omega.{arith}
+use Rattle.std.proofs.Common.{arith}
 use Rattle.groups.proofs.Walking.{matching_start, stored_placed, matching_room, matching_on, matching_differs, matching_done}
 use Rattle.groups.proofs.match_groups.Goals as goal
 

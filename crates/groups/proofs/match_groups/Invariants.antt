@@ -1,6 +1,6 @@
 -- `groups::match_groups` meets its contract. The loop's invariant: what is left of the clauses and of the groups says what all
 -- says, and the turns are counted (`Matching`). The measure is how many clauses are left. Assumes nothing.
-use Prim.Native.Nat.{◌-◌}
+use Rattle.std.proofs.Common.{◌-◌}
 use Rattle.groups.proofs.Walking.{Matching}
 use Rattle.groups.proofs.match_groups.Given as goal
 

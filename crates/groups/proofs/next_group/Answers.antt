@@ -1,4 +1,4 @@
-use native.Mathlib.Omega.{arith}
+use Rattle.std.proofs.Common.{arith}
 use Rattle.groups.proofs.Hints.{no_group_start, no_group_on}
 use Rattle.groups.proofs.next_group.Goals as goal
 

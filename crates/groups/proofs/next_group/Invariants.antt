@@ -1,7 +1,6 @@
 -- `groups::next_group` meets its contract. The loop's invariant: no group begins from `from` on up to i. The measure is what is
 -- left of the hints. Assumes nothing.
-use Prim.Native.Nat.{◌-◌, ◌≤◌}
-use lib.ListN.{length}
+use Rattle.std.proofs.Common.{◌-◌, ◌≤◌, length}
 use Rattle.groups.specs.Matching.{NoGroup}
 use Rattle.groups.proofs.next_group.Given as goal
 

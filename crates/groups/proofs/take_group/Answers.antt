@@ -1,6 +1,6 @@
 -- `groups::take_group` meets its contract: the group at the place has the id, or the smaller of the two is at fault.
 -- Assumes nothing.
-use native.Mathlib.Omega.{arith}
+use Rattle.std.proofs.Common.{arith}
 use Rattle.groups.proofs.Walking.{take_none, take_other, take_same}
 use Rattle.groups.proofs.take_group.Goals as goal
 

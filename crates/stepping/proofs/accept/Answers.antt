@@ -1,8 +1,7 @@
 -- `accept` meets its contract: the clause is appended, unless it is empty or there is no room for it. The file stands here also so
 -- that edits of the function are refused by name.
 -- Assumes nothing.
-use mathlib.Core.Path.{refl}
-use native.Mathlib.Omega.{arith}
+use Rattle.std.proofs.Common.{refl, arith}
 use Rattle.stepping.proofs.accept.Goals as goal
 
 pub returns : goal.returns

@@ -1,5 +1,5 @@
 -- `add` meets its contract: the literals up to `end` are judged, and an accepted clause becomes live. Assumes nothing.
-use mathlib.Core.Path.{sym}
+use Rattle.std.proofs.Common.{sym}
 use Rattle.stepping.proofs.Adding.{front_long, addable_front, addition_adds}
 use Rattle.stepping.proofs.add.Goals as goal
 

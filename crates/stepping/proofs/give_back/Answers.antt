@@ -1,5 +1,5 @@
 -- `give_back` meets its contract: nothing is to be done, or the store is compacted. Assumes nothing.
-use native.Mathlib.Omega.{arith}
+use Rattle.std.proofs.Common.{arith}
 use Rattle.stepping.proofs.Lessening.{back_same, back_moved, back_turns}
 use Rattle.stepping.proofs.give_back.Goals as goal
 

@@ -1,7 +1,6 @@
 -- `stop` meets its contract. Assumes nothing.
-use mathlib.Core.Path.{refl}
+use Rattle.std.proofs.Common.{refl, arith}
 use Rattle.stepping.proofs.Spending.{spent_most}
-use native.Mathlib.Omega.{arith}
 use Rattle.stepping.proofs.stop.Goals as goal
 
 pub returns : goal.returns

@@ -1,5 +1,5 @@
 -- `take_deletion` meets its contract. Assumes nothing.
-use mathlib.Core.Path.{refl}
+use Rattle.std.proofs.Common.{refl}
 use Rattle.stepping.proofs.Spending.{spent_most}
 use Rattle.stepping.proofs.take_deletion.Goals as goal
 

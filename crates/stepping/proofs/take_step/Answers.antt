@@ -1,5 +1,5 @@
 -- `take_step` meets its contract: the step is read, and by what was read it is judged. Assumes nothing.
-use native.Mathlib.Omega.{arith}
+use Rattle.std.proofs.Common.{arith}
 use Rattle.stepping.proofs.Taking.{addition_later, addition_addable, addition-taken, deletion_later, deletion_tight, deletion_few, deletion-taken}
 use Rattle.stepping.proofs.Taking.{nothing_taken, stopped_forward, stopped_fits, bad_stopped, bad_taken, short_stopped, short_taken}
 use Rattle.stepping.proofs.take_step.Goals as goal

@@ -1,5 +1,4 @@
-use mathlib.Core.Path.{refl}
-use native.Mathlib.Omega.{arith}
+use Rattle.std.proofs.Common.{refl, arith}
 use Rattle.steps.proofs.Alongs.{along-start, along_more}
 use Rattle.steps.proofs.along.Goals as goal
 

@@ -1,7 +1,6 @@
 -- `along` meets its contract. The loop's invariant is the contract itself, of the numbers taken so far; the measure is the room
 -- that is left in the slice. Assumes nothing.
-use Prim.Native.Nat.{◌-◌}
-use lib.ListN.{length}
+use Rattle.std.proofs.Common.{◌-◌, length}
 use Rattle.steps.specs.Reading.{Along}
 use Rattle.steps.proofs.along.Given as goal
 

@@ -1,5 +1,5 @@
 -- `at_end` meets its contract: one answer for each kind of token. Assumes nothing.
-use mathlib.Core.Path.{refl}
+use Rattle.std.proofs.Common.{refl}
 use Rattle.steps.proofs.Readings.{at_end_not}
 use Rattle.steps.proofs.at_end.Goals as goal
 

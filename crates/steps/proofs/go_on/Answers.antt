@@ -1,5 +1,5 @@
 -- `go_on` meets its contract, by what the reader is reading. Assumes nothing.
-use native.Mathlib.Omega.{arith}
+use Rattle.std.proofs.Common.{arith}
 use Rattle.steps.proofs.Alongs.{onward_literals, onward_hints}
 use Rattle.steps.proofs.go_on.Goals as goal
 

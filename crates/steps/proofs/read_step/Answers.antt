@@ -1,5 +1,4 @@
-use mathlib.Core.Path.{refl}
-use native.Mathlib.Omega.{arith}
+use Rattle.std.proofs.Common.{refl, arith}
 use Rattle.steps.proofs.Readings.{reading-start, reading_lits, reading_hints, reading_next, reading_on, reading-added, reading_deleted, reading_short, reading-unread}
 use Rattle.steps.proofs.read_step.Goals as goal
 

@@ -1,7 +1,6 @@
 -- `read_step` meets its contract. The loop's invariant: the tokens up to the place i make the part of a step that the phase
 -- and the slices say (`Reading`). The measure is what is left of the text. Assumes nothing.
-use Prim.Native.Nat.{◌-◌}
-use lib.ListN.{length}
+use Rattle.std.proofs.Common.{◌-◌, length}
 use Rattle.steps.specs.Reading.{Reading}
 use Rattle.steps.proofs.read_step.Given as goal
 

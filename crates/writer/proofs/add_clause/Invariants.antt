@@ -1,7 +1,6 @@
 -- `writer::add_clause` meets its contract. The loop's invariant: the bytes of the first `i` literals are added, each with a space, and
 -- the sum is within the room. The measure is the number of the other literals. Assumes nothing.
-use Prim.Native.Nat.{◌-◌}
-use lib.ListN.{length}
+use Rattle.std.proofs.Common.{◌-◌, length}
 use Rattle.writer.proofs.Sums.{Adding}
 use Rattle.writer.proofs.add_clause.Given as goal
 

@@ -1,4 +1,4 @@
-use native.Mathlib.Omega.{arith}
+use Rattle.std.proofs.Common.{arith}
 use Rattle.writer.proofs.Stored.{formed_placed}
 use Rattle.writer.proofs.Sums.{adding_all_start, adding_all_turns, adding_all_on, adding_all_over, adding_all_end}
 use Rattle.writer.proofs.add_clauses.Goals as goal

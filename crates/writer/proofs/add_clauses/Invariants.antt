@@ -1,6 +1,6 @@
 -- `writer::add_clauses` meets its contract. The loop's invariant: the bytes of the first `k` clauses are added, and the sum is within
 -- the room. The measure is the number of the other clauses. Assumes nothing.
-use Prim.Native.Nat.{◌-◌}
+use Rattle.std.proofs.Common.{◌-◌}
 use Rattle.writer.proofs.Sums.{AddingAll}
 use Rattle.writer.proofs.add_clauses.Given as goal
 

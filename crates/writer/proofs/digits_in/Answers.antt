@@ -1,4 +1,4 @@
-use native.Mathlib.Omega.{arith}
+use Rattle.std.proofs.Common.{arith}
 use Rattle.writer.proofs.Digits.{counting_start, counting_below, counting_on, counting_end}
 use Rattle.writer.proofs.digits_in.Goals as goal
 

@@ -1,6 +1,6 @@
 -- `writer::literal_length` meets its contract: the digits, and the sign if there is one. Assumes nothing.
 use Rattle.writer.proofs.Literals.{positive-length, negative-length}
-use native.Mathlib.Omega.{arith}
+use Rattle.std.proofs.Common.{arith}
 use Rattle.writer.proofs.literal_length.Goals as goal
 
 pub returns-then-code-gt0 : goal.returns-then-code-gt0

@@ -1,4 +1,4 @@
-use native.Mathlib.Omega.{arith}
+use Rattle.std.proofs.Common.{arith}
 use Rattle.writer.proofs.Texts.{going_room, byte_room, wrote_same}
 use Rattle.writer.proofs.Clauses.{writing_start, writing_end, writing_room, writing_space, writing_below, writing_forward, writing_on, ending-room, ending}
 use Rattle.writer.proofs.write_clause.Goals as goal

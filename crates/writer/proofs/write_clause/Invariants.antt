@@ -1,7 +1,6 @@
 -- `writer::write_clause` meets its contract. The loop's invariant: the first `i` literals are written, each with a space, and what is
 -- left to write is the text of the others. The measure is the number of the others. Assumes nothing.
-use Prim.Native.Nat.{◌-◌}
-use lib.ListN.{length}
+use Rattle.std.proofs.Common.{◌-◌, length}
 use Rattle.writer.proofs.Clauses.{Writing}
 use Rattle.writer.proofs.write_clause.Given as goal
 

@@ -1,4 +1,4 @@
-use native.Mathlib.Omega.{arith}
+use Rattle.std.proofs.Common.{arith}
 use Rattle.writer.proofs.Stored.{formed_placed, all_start, all_same, all_end, all_room, all_on, all_turns_lem}
 use Rattle.writer.proofs.write_clauses.Goals as goal
 

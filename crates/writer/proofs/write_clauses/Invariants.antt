@@ -1,6 +1,6 @@
 -- `writer::write_clauses` meets its contract. The loop's invariant: the first `done` clauses are written, and what is left to write is the
 -- text of the others. The measure is the number of the others. Assumes nothing.
-use Prim.Native.Nat.{◌-◌}
+use Rattle.std.proofs.Common.{◌-◌}
 use Rattle.writer.proofs.Stored.{WritingAll}
 use Rattle.writer.proofs.write_clauses.Given as goal
 

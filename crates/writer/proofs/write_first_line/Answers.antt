@@ -1,5 +1,5 @@
 -- `writer::write_first_line` meets its contract: the parts of the line, one behind the other. Assumes nothing.
-use native.Mathlib.Omega.{arith}
+use Rattle.std.proofs.Common.{arith}
 use Rattle.writer.proofs.Texts.{room-first, wrote_same}
 use Rattle.writer.proofs.Lines.{line_start_lem, first-room, space_room, second_room, feed-room, feed-below, line_wrote}
 use Rattle.writer.proofs.write_first_line.Goals as goal

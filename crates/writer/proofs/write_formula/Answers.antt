@@ -1,5 +1,5 @@
 -- `writer::write_formula` meets its contract: the first line, and then the clauses. Assumes nothing.
-use native.Mathlib.Omega.{arith}
+use Rattle.std.proofs.Common.{arith}
 use Rattle.writer.proofs.Texts.{room-first, room_rest}
 use Rattle.writer.proofs.Lines.{formula_parts, formula_room, formula_wrote}
 use Rattle.writer.proofs.write_formula.Goals as goal

@@ -1,6 +1,5 @@
 -- `writer::write_line_start` meets its contract: six stores in a row. Assumes nothing.
-use native.Mathlib.Omega.{arith}
-use lib.ListN.{length-set}
+use Rattle.std.proofs.Common.{arith, length-set}
 use Rattle.writer.proofs.Lines.{start-room, start_wrote}
 use Rattle.writer.proofs.write_line_start.Goals as goal
 

@@ -1,6 +1,5 @@
 -- `writer::write_literal` meets its contract: the number alone, or the sign and then the number. Assumes nothing.
-use mathlib.Core.Path.{refl}
-use native.Mathlib.Omega.{arith}
+use Rattle.std.proofs.Common.{refl, arith}
 use Rattle.writer.proofs.Texts.{wrote_as, room_as, room-first, room_rest, wrote_parts}
 use Rattle.writer.proofs.Literals.{positive_text, negative_text}
 use Rattle.writer.proofs.write_literal.Goals as goal

@@ -1,5 +1,5 @@
 -- `writer::write_number` meets its contract: the last digits, and then the first one. Assumes nothing.
-use native.Mathlib.Omega.{arith}
+use Rattle.std.proofs.Common.{arith}
 use Rattle.writer.proofs.Filling.{filled_number}
 use Rattle.writer.proofs.write_number.Goals as goal
 

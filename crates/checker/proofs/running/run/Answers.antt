@@ -1,5 +1,4 @@
-use mathlib.Core.Path.{sym, ◌∙◌}
-use native.Mathlib.Omega.{arith}
+use Rattle.std.proofs.Common.{sym, ◌∙◌, arith}
 use Rattle.checker.proofs.Runs.{running_start, running_small, running_end, running_on, running_less}
 use Rattle.checker.proofs.running.run.Goals as goal
 

@@ -1,6 +1,6 @@
 -- `running::run` meets its contract. The loop's invariant is `Running`: what is left comes to what the whole comes to. The measure
 -- is how many tokens are left. Assumes nothing.
-use lib.ListN.{length, drop}
+use Rattle.std.proofs.Common.{length, drop}
 use Rattle.rules.specs.Text.{tokens}
 use Rattle.checker.proofs.Runs.{Running}
 use Rattle.checker.proofs.running.run.Given as goal

@@ -1,5 +1,5 @@
 -- `body::close` meets its contract: the clause is appended if there is room for it. Assumes nothing.
-use native.Mathlib.Omega.{arith}
+use Rattle.std.proofs.Common.{arith}
 use Rattle.formula.proofs.body.close.Goals as goal
 
 pub returns : goal.returns

@@ -1,6 +1,6 @@
 -- `body::greatest_code` meets its contract. The loop's invariant: `top` is the greatest of the first i numbers. The measure is
 -- what is left of them. Assumes nothing.
-use Prim.Native.Nat.{◌-◌}
+use Rattle.std.proofs.Common.{◌-◌}
 use Rattle.formula.proofs.Greatest.{Topping}
 use Rattle.formula.proofs.body.greatest_code.Given as goal
 

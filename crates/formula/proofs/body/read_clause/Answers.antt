@@ -1,5 +1,4 @@
-use mathlib.Core.Path.{sym, ◌∙◌}
-use native.Mathlib.Omega.{arith}
+use Rattle.std.proofs.Common.{sym, ◌∙◌, arith}
 use Rattle.formula.proofs.Bodies.{reading-start, reading_next, reading_on, reading_done, reading_bad, reading-long}
 use Rattle.formula.proofs.body.read_clause.Goals as goal
 

@@ -1,7 +1,6 @@
 -- `body::read_clause` meets its contract. The loop's invariant: the literals read so far are stored, and what is left says
 -- what all says (`Reading`). The measure is what is left of the text. Assumes nothing.
-use Prim.Native.Nat.{◌-◌}
-use lib.ListN.{length}
+use Rattle.std.proofs.Common.{◌-◌, length}
 use Rattle.formula.proofs.Bodies.{Reading}
 use Rattle.formula.proofs.body.read_clause.Given as goal
 

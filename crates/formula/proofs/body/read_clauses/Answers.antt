@@ -1,6 +1,5 @@
 use Rattle.formula.proofs.Fillings.{reads-long, closes_long}
-use mathlib.Core.Path.{◌∙◌}
-use native.Mathlib.Omega.{arith}
+use Rattle.std.proofs.Common.{◌∙◌, arith}
 use Rattle.formula.proofs.Fillings.{filling_start, filling_done, filling_bad, filling_long, filling_full, filling_on}
 use Rattle.formula.proofs.body.read_clauses.Goals as goal
 

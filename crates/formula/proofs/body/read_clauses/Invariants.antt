@@ -1,6 +1,6 @@
 -- `body::read_clauses` meets its contract. The loop's invariant: k clauses are in the store, and what is left says what all
 -- says (`Filling`). The measure is the number of clauses that are still to come. Assumes nothing.
-use Prim.Native.Nat.{◌-◌}
+use Rattle.std.proofs.Common.{◌-◌}
 use Rattle.formula.proofs.Fillings.{Filling}
 use Rattle.formula.proofs.body.read_clauses.Given as goal
 

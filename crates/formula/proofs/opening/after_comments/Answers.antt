@@ -1,4 +1,4 @@
-use native.Mathlib.Omega.{arith}
+use Rattle.std.proofs.Common.{arith}
 use Rattle.formula.proofs.Openings.{passing_start, passing_end, passing_stop, passing_on}
 use Rattle.formula.proofs.opening.after_comments.Goals as goal
 

@@ -1,7 +1,6 @@
 -- `opening::after_comments` meets its contract. The loop's invariant: `at` is behind some comment lines, and what is behind
 -- all of them is what is behind those that follow. The measure is what is left of the text. Assumes nothing.
-use Prim.Native.Nat.{◌-◌}
-use lib.ListN.{length}
+use Rattle.std.proofs.Common.{◌-◌, length}
 use Rattle.formula.proofs.Openings.{Passing}
 use Rattle.formula.proofs.opening.after_comments.Given as goal
 

@@ -1,7 +1,6 @@
 -- `opening::after_line` meets its contract. The loop's invariant: i is still inside the comment line that goes on at `at`. The
 -- measure is what is left of the text. Assumes nothing.
-use Prim.Native.Nat.{◌-◌}
-use lib.ListN.{length}
+use Rattle.std.proofs.Common.{◌-◌, length}
 use Rattle.formula.proofs.Openings.{Inside}
 use Rattle.formula.proofs.opening.after_line.Given as goal
 

@@ -1,6 +1,6 @@
 -- `opening::announced` meets its contract: the prefix, the number before the first space behind it, the number behind that
 -- space. Assumes nothing.
-use mathlib.Core.Path.{◌∙◌}
+use Rattle.std.proofs.Common.{◌∙◌}
 use Rattle.formula.proofs.Headers.{announced_off, announced-none, announced_both, prefixed-long}
 use Rattle.formula.proofs.opening.announced.Goals as goal
 

@@ -1,5 +1,5 @@
 -- `opening::count_of` meets its contract: the slice is a number if its first word is all of it. Assumes nothing.
-use mathlib.Core.Path.{sym, ◌∙◌}
+use Rattle.std.proofs.Common.{sym, ◌∙◌}
 use Rattle.formula.proofs.Headers.{count_empty, count_blank, count-part, count_all}
 use Rattle.formula.proofs.opening.count_of.Goals as goal
 

@@ -1,7 +1,6 @@
 -- `opening::first` meets its contract. The loop's invariant: what is before the byte is what was passed and what is before it
 -- from i on. The measure is what is left of the text. Assumes nothing.
-use Prim.Native.Nat.{◌-◌}
-use lib.ListN.{length}
+use Rattle.std.proofs.Common.{◌-◌, length}
 use Rattle.formula.proofs.Openings.{Seeking}
 use Rattle.formula.proofs.opening.first.Given as goal
 

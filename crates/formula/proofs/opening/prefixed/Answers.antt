@@ -1,8 +1,7 @@
 -- `opening::prefixed` meets its contract: the bytes of `p cnf `, one test each. Assumes nothing.
-use mathlib.Core.Path.{◌∙◌}
+use Rattle.std.proofs.Common.{◌∙◌, arith}
 use Rattle.formula.proofs.Headers.{prefix_short, prefix_off, through_1, through_2, through_3, through_4, through_5, through_last}
 use Rattle.rules.specs.Tools.{bytes}
-use native.Mathlib.Omega.{arith}
 use Rattle.formula.proofs.opening.prefixed.Goals as goal
 
 pub returns-then-line-lt6 : goal.returns-then-line-lt6

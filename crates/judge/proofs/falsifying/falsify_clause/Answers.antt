@@ -1,5 +1,5 @@
 -- `falsifying::falsify_clause` meets its contract: no literal has the number that is left out. Assumes nothing.
-use native.Mathlib.Omega.{arith}
+use Rattle.std.proofs.Common.{arith}
 use Rattle.judge.proofs.Falling.{whole_clause}
 use Rattle.judge.proofs.falsifying.falsify_clause.Goals as goal
 

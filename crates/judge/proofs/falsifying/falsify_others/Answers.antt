@@ -1,5 +1,4 @@
-use mathlib.Core.Path.{◌∙◌}
-use native.Mathlib.Omega.{arith}
+use Rattle.std.proofs.Common.{◌∙◌, arith}
 use Rattle.judge.proofs.Falling.{falling_start, falling_paired, falling_known, falling_stop, falling_on, falling_end}
 use Rattle.judge.proofs.falsifying.falsify_others.Goals as goal
 

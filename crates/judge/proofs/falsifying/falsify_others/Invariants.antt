@@ -1,7 +1,6 @@
 -- `falsifying::falsify_others` meets its contract. The loop's invariant: the literals before i are false or left out, and
 -- those from i on say what all say (`Falling`). The measure is the number of literals that are left. Assumes nothing.
-use Prim.Native.Nat.{◌-◌}
-use lib.ListN.{length}
+use Rattle.std.proofs.Common.{◌-◌, length}
 use Rattle.judge.proofs.Falling.{Falling}
 use Rattle.judge.proofs.falsifying.falsify_others.Given as goal
 

@@ -1,5 +1,5 @@
 -- `hints::force` meets its contract: a literal is true once its opposite is marked. Assumes nothing.
-use native.Mathlib.Omega.{arith}
+use Rattle.std.proofs.Common.{arith}
 use Rattle.judge.proofs.Taking.{force_short, force_known, force_now}
 use Rattle.judge.proofs.hints.force.Goals as goal
 

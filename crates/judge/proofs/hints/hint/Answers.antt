@@ -1,6 +1,6 @@
 -- `hints::hint` meets its contract: the clause that is found is looked at, and where none is found none is live. Assumes
 -- nothing.
-use native.Mathlib.Omega.{arith}
+use Rattle.std.proofs.Common.{arith}
 use Rattle.judge.proofs.Hinting.{ready_searchable, found_lookable, found_short_at, hint-live, hint-not-live}
 use Rattle.judge.proofs.hints.hint.Goals as goal
 

@@ -1,5 +1,4 @@
-use mathlib.Core.Path.{◌∙◌}
-use native.Mathlib.Omega.{arith}
+use Rattle.std.proofs.Common.{◌∙◌, arith}
 use Rattle.judge.proofs.Hinting.{ready_room, ahead_here}
 use Rattle.judge.proofs.Taking.{taking_start, taking_ready, taking_stop, taking_on, taking_end}
 use Rattle.judge.proofs.hints.take_hints.Goals as goal

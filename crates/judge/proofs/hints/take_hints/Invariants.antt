@@ -1,7 +1,7 @@
 -- `hints::take_hints` meets its contract. The loop's invariant: each hint before i forced a literal, which is true now, and
 -- the hints from i on come to what all come to (`Taking`); and the place that was peeked at is for the i-th hint (`Ahead`). The
 -- measure is the number of hints that are left. Assumes nothing.
-use Prim.Native.Nat.{◌-◌}
+use Rattle.std.proofs.Common.{◌-◌}
 use Rattle.clauses.specs.Store.{live_of}
 use Rattle.judge.specs.Hints.{Ahead}
 use Rattle.judge.proofs.Taking.{Taking}

@@ -1,5 +1,5 @@
 -- `feeding::feed_body` meets its contract: the letter d, or the first of the literals. Assumes nothing.
-use mathlib.Core.Path.{refl}
+use Rattle.std.proofs.Common.{refl}
 use Rattle.steps.proofs.Coding.{body_letter, body_literal}
 use Rattle.steps.proofs.feeding.feed_body.Goals as goal
 

@@ -1,6 +1,5 @@
 -- `feeding::feed_hint` meets its contract: a hint, or the 0 behind the hints. Assumes nothing.
-use mathlib.Core.Path.{refl}
-use native.Mathlib.Omega.{arith}
+use Rattle.std.proofs.Common.{refl, arith}
 use Rattle.steps.specs.Feeding.{hint_fed}
 use Rattle.steps.proofs.Coding.{keeps_room, fed_by}
 use Rattle.steps.proofs.feeding.feed_hint.Goals as goal

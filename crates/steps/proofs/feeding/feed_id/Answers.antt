@@ -1,6 +1,5 @@
 -- `feeding::feed_id` meets its contract: an id to delete, or the 0 behind the ids. Assumes nothing.
-use mathlib.Core.Path.{refl}
-use native.Mathlib.Omega.{arith}
+use Rattle.std.proofs.Common.{refl, arith}
 use Rattle.steps.specs.Feeding.{id_fed}
 use Rattle.steps.proofs.Coding.{keeps_room, fed_by}
 use Rattle.steps.proofs.feeding.feed_id.Goals as goal

@@ -1,6 +1,5 @@
 -- `feeding::feed_literal` meets its contract: a literal, or the 0 behind the literals. Assumes nothing.
-use mathlib.Core.Path.{refl}
-use native.Mathlib.Omega.{arith}
+use Rattle.std.proofs.Common.{refl, arith}
 use Rattle.steps.specs.Feeding.{literal_fed}
 use Rattle.steps.proofs.Coding.{keeps_room, fed_by}
 use Rattle.steps.proofs.feeding.feed_literal.Goals as goal

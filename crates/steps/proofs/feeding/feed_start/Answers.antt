@@ -1,5 +1,5 @@
 -- `feeding::feed_start` meets its contract: the id, and without one the step is unreadable. Assumes nothing.
-use mathlib.Core.Path.{refl}
+use Rattle.std.proofs.Common.{refl}
 use Rattle.steps.proofs.Coding.{start_on}
 use Rattle.steps.proofs.feeding.feed_start.Goals as goal
 

@@ -1,5 +1,5 @@
 -- `feeding::id_within` meets its contract: a positive number up to the limit is an id, and nothing else is. Assumes nothing.
-use native.Mathlib.Omega.{arith}
+use Rattle.std.proofs.Common.{arith}
 use Rattle.steps.proofs.Coding.{id_large, id_small}
 use Rattle.steps.proofs.feeding.id_within.Goals as goal
 

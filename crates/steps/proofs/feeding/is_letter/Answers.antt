@@ -1,5 +1,5 @@
 -- `feeding::is_letter` meets its contract: one answer for each kind of token. Assumes nothing.
-use mathlib.Core.Path.{refl}
+use Rattle.std.proofs.Common.{refl}
 use Rattle.steps.proofs.Coding.{letter_no}
 use Rattle.steps.proofs.feeding.is_letter.Goals as goal
 
