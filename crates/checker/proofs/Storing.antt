@@ -1,6 +1,7 @@
 -- The formula in the store: the variables of its literals, and the state that the run starts from. Assumes nothing.
-use Rattle.std.proofs.Common.{ℕ, zero, suc, ◌+◌, ◌-◌, ◌/◌, ◌<◌, ◌≤◌, max, ◌≡◌, refl, sym, ap, ◌∙◌, inl, inr, ⊎_elim, Bool, true, false, List, [], ◌∷◌, ◌++◌, map, arith, length, get_or, take, get_or-take, length-take-le, get_or-drop}
+use Rattle.std.proofs.Common.{ℕ, zero, suc, ◌+◌, ◌-◌, ◌/◌, ◌<◌, ◌≤◌, max, ◌≡◌, refl, sym, ap, ◌∙◌, inl, inr, ⊎_elim, Bool, true, false, not, List, [], ◌∷◌, ◌++◌, map, arith, length, get_or, take, get_or-take, length-take-le, get_or-drop}
 use Rattle.std.proofs.Math.Seq.{slice, length-slice}
+use borrow.Author.Tests.{not-true, not-false}
 use Rattle.meaning.specs.Meaning.{Clause, Formula, Within, AllWithin}
 use Rattle.rules.specs.Judging.{Live}
 use Rattle.rules.specs.Answers.{numbered, start}
@@ -73,11 +74,11 @@ greatest_stands (x ∷ y ∷ xs) h =
     (cut x (greatest (y ∷ xs)))
 
 -- By the answer.
-pub has_no : (marks used top : ℕ) (r : Bool) → HasMarks marks used top r → r ≡ false → HasMarks marks used top false
-has_no marks used top r h e = rw e at h
+pub has_no : (marks used top : ℕ) (r : Bool) → HasMarks marks used top r → not r ≡ true → HasMarks marks used top false
+has_no marks used top r h e = rw (not-true r e) at h
 
-pub has_all : (marks used top : ℕ) (r : Bool) → HasMarks marks used top r → r ≡ true → HasMarks marks used top true
-has_all marks used top r h e = rw e at h
+pub has_all : (marks used top : ℕ) (r : Bool) → HasMarks marks used top r → not r ≡ false → HasMarks marks used top true
+has_all marks used top r h e = rw (not-false r e) at h
 
 -- The greatest variable has no mark.
 pub no_mark : (heads lits : List ℕ) (n used top cells : ℕ) → top ≡ greatest (take used lits) / 2 → HasMarks cells used top false
