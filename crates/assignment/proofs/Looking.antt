@@ -42,9 +42,9 @@ opened_false : (o : Open) (x mark : ℕ) → (mark ≡ 0 → ⊥) → opened o x
 unfolding opened
 opened_false o x mark d = rw (ne_eqb mark 0 d, opened)
 
-opened_not-false : (o : Open) (x mark : ℕ) → mark ≡ 0 → opened o x mark ≡ one_more o x
+opened_not_false : (o : Open) (x mark : ℕ) → mark ≡ 0 → opened o x mark ≡ one_more o x
 unfolding opened
-opened_not-false o x mark e = rw (eq-eqb mark 0 e, opened)
+opened_not_false o x mark e = rw (eq-eqb mark 0 e, opened)
 
 -- As two numbers: how often one was met that is not the one met before it, and the last of them.
 pub open_of : ℕ → ℕ → Open
@@ -93,7 +93,7 @@ module _ (others last x mark r last' : ℕ) (k : Counted last x mark r) (l : Lat
   numbers_on new =
       bool_cases (eqb mark 0)
       (λ y. let e = eqb-true mark 0 y in
-      opened_not-false (open_of others last) x mark e
+      opened_not_false (open_of others last) x mark e
       ∙ ⊎_elim
       (λ none. numbers_first e (omega arith) (new (omega arith)))
       (λ some. ⊎_elim (λ single. numbers_second e (omega arith)) (λ lots. numbers_more e lots) (cut others 2))
@@ -116,9 +116,9 @@ module _ (a : Trail) (x : ℕ) (xs : List ℕ) where
   unfolding open_all
   open_false o e = ap (λ (p : Open). open_all a p xs) (opened_false o x (mark_of (among (opposite (literal_of x)) a)) (λ z. omega (arith, sym (ap mark_of e) ∙ z)))
 
-  open_not-false : (o : Open) → among (opposite (literal_of x)) a ≡ false → open_all a o (x ∷ xs) ≡ open_all a (one_more o x) xs
+  open_not_false : (o : Open) → among (opposite (literal_of x)) a ≡ false → open_all a o (x ∷ xs) ≡ open_all a (one_more o x) xs
   unfolding open_all
-  open_not-false o e = ap (λ (p : Open). open_all a p xs) (opened_not-false o x (mark_of (among (opposite (literal_of x)) a)) (ap mark_of e))
+  open_not_false o e = ap (λ (p : Open). open_all a p xs) (opened_not_false o x (mark_of (among (opposite (literal_of x)) a)) (ap mark_of e))
 
   drop_false : among (opposite (literal_of x)) a ≡ true → not_false a (map literal_of (x ∷ xs)) ≡ not_false a (map literal_of xs)
   unfolding not_false
@@ -134,7 +134,7 @@ open_many a [] = refl
 open_many a (x ∷ xs) =
     bool_cases (among (opposite (literal_of x)) a)
     (λ y. open_false a x xs many y ∙ open_many a xs)
-    (λ n. open_not-false a x xs many n ∙ open_many a xs)
+    (λ n. open_not_false a x xs many n ∙ open_many a xs)
 
 -- The first literal twice, or followed by another one.
 look_twice : (a : Trail) (l k : Literal) (c : Clause) → same_literal l k ≡ true → look_of a (l ∷ k ∷ c) ≡ look_of a (l ∷ c)
@@ -151,7 +151,7 @@ open_one a x [] = refl
 open_one a x (y ∷ xs) =
     bool_cases (among (opposite (literal_of y)) a)
     (λ t. ap (concluded a) (open_false a y xs (one x) t) ∙ (open_one a x xs ∙ ap (λ (c : Clause). look_of a (literal_of x ∷ c)) (sym (drop_false a y xs t))))
-    (λ n. ap (concluded a) (open_not-false a y xs (one x) n) ∙ (go (open_one a x xs) ∙ ap (λ (c : Clause). look_of a (literal_of x ∷ c)) (sym (keep-not-false a y xs n))))
+    (λ n. ap (concluded a) (open_not_false a y xs (one x) n) ∙ (go (open_one a x xs) ∙ ap (λ (c : Clause). look_of a (literal_of x ∷ c)) (sym (keep-not-false a y xs n))))
   where
     go : concluded a (open_all a (one x) xs) ≡ look_of a (literal_of x ∷ not_false a (map literal_of xs))
         → concluded a (open_all a (one_more (one x) y) xs) ≡ look_of a (literal_of x ∷ literal_of y ∷ not_false a (map literal_of xs))
@@ -176,7 +176,7 @@ open_look a xs = sym (go xs)
     go (x ∷ xs) =
         bool_cases (among (opposite (literal_of x)) a)
         (λ t. ap (concluded a) (open_false a x xs nothing t) ∙ (go xs ∙ ap (look_of a) (sym (drop_false a x xs t))))
-        (λ n. ap (concluded a) (open_not-false a x xs nothing n) ∙ (open_one a x xs ∙ ap (look_of a) (sym (keep-not-false a x xs n))))
+        (λ n. ap (concluded a) (open_not_false a x xs nothing n) ∙ (open_one a x xs ∙ ap (look_of a) (sym (keep-not-false a x xs n))))
 
 -- The loop
 
@@ -204,7 +204,7 @@ looking_start clause marks = record { left = λ a s. refl; held = tt; fresh = λ
 opened_in : (clause : List ℕ) (o : Open) (x mark : ℕ) → OpenIn clause o → In clause x → OpenIn clause (opened o x mark)
 opened_in clause o x mark h new =
     bool_cases (eqb mark 0)
-    (λ y. rw (opened_not-false o x mark (eqb-true mark 0 y)) (go o h))
+    (λ y. rw (opened_not_false o x mark (eqb-true mark 0 y)) (go o h))
     (λ n. rw (opened_false o x mark (eqb-false mark 0 n)) h)
   where
     go : (o : Open) → OpenIn clause o → OpenIn clause (one_more o x)

@@ -9,7 +9,7 @@ use Rattle.rules.specs.Limits.{max_variable, max_clauses}
 use Rattle.rules.specs.Text.{is_blank, is_digit, digits, positive, Token, nought, plus, minus, letter_d, other, signed, same_bytes, token, word}
 use Rattle.rules.specs.Formula.{after_prefix, count, header}
 use Rattle.rules.proofs.Options.{none-some, option_cases}
-use Rattle.rules.proofs.Words.{digit-not_blank}
+use Rattle.rules.proofs.Words.{digit_not_blank}
 use Rattle.text.specs.Scan.{most, blanks, capped, token_of, Scans}
 use Rattle.text.specs.declared.Token.{Token as Found}
 use Rattle.text.specs.declared.Token.TheVariants.{Plus}
@@ -46,7 +46,7 @@ unfolding digits word
 digits_whole n [] m e = refl
 digits_whole n (b ∷ s) m e =
     bool_cases (is_digit b)
-    (λ y. rw (digit-not_blank b y, word) (ap (λ (r : List ℕ). b ∷ r) (digits_whole (n * 10 + (b - 48)) s m (rw (y, digits) at e))))
+    (λ y. rw (digit_not_blank b y, word) (ap (λ (r : List ℕ). b ∷ r) (digits_whole (n * 10 + (b - 48)) s m (rw (y, digits) at e))))
     (λ f. none-some (rw (f, digits) at e))
 
 positive_whole : (s : List ℕ) (m : ℕ) → positive s ≡ some m → word s ≡ s
@@ -109,8 +109,8 @@ pub count_whole : (limit : ℕ) (s : List ℕ) (v : ℕ) → count limit (token 
 count_whole limit s v e = count-some limit (token s) s v (token_whole s) e
 
 -- If its word is not all of it, a slice is no number.
-pub count-not_whole : (limit : ℕ) (s : List ℕ) → (word s ≡ s → ⊥) → Wrong ≡ count_of (count limit (token s))
-count-not_whole limit s f = option_cases (count limit (token s)) (λ q. rw q) (λ v q. absurd (f (count_whole limit s v q)))
+pub count_not_whole : (limit : ℕ) (s : List ℕ) → (word s ≡ s → ⊥) → Wrong ≡ count_of (count limit (token s))
+count_not_whole limit s f = option_cases (count limit (token s)) (λ q. rw q) (λ v q. absurd (f (count_whole limit s v q)))
 
 -- A whole slice as a number
 
@@ -126,7 +126,7 @@ module _ (limit : ℕ) (s : List ℕ) (some_byte : length s ≡ 0 → ⊥) where
   word_blank (b ∷ t) h e q = let z : [] ≡ b ∷ t = (rw (e, word) at q) in let y : ◌≡◌ {A = ℕ} 0 1 = cc in omega arith
 
   pub count_blank : is_blank (get_or s 0 0) ≡ true → Wrong ≡ count_of (count limit (token s))
-  count_blank e = count-not_whole limit s (word_blank s some_byte e)
+  count_blank e = count_not_whole limit s (word_blank s some_byte e)
 
   module _ (first : is_blank (get_or s 0 0) ≡ false) (t : Found) (next : ℕ) (r : Scans 0 (drop 0 s) t next) where
     no_blanks : (u : List ℕ) → is_blank (get_or u 0 0) ≡ false → blanks u ≡ 0
@@ -144,7 +144,7 @@ module _ (limit : ℕ) (s : List ℕ) (some_byte : length s ≡ 0 → ⊥) where
         omega (arith, r.is_next, z, ap length w)
 
     pub count-part : (next ≡ length s → ⊥) → Wrong ≡ count_of (count limit (token s))
-    count-part f = count-not_whole limit s (λ q. f (is_next ∙ ap length q))
+    count-part f = count_not_whole limit s (λ q. f (is_next ∙ ap length q))
 
     word_all : (u : List ℕ) → length (word u) ≡ length u → word u ≡ u
     unfolding word

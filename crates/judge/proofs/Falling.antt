@@ -46,11 +46,11 @@ or_last false true false s = refl
 or_last false false r s = refl
 
 -- One more literal is true.
-some-true_more : (k : Literal) (a : Trail) (c : Clause) → some_true (k ∷ a) c ≡ (among k c || some_true a c)
+some_true_more : (k : Literal) (a : Trail) (c : Clause) → some_true (k ∷ a) c ≡ (among k c || some_true a c)
 unfolding some_true among
-some-true_more k a [] = refl
-some-true_more k a (m ∷ c) =
-    ap (λ (b : Bool). (same_literal m k || among m a) || b) (some-true_more k a c)
+some_true_more k a [] = refl
+some_true_more k a (m ∷ c) =
+    ap (λ (b : Bool). (same_literal m k || among m a) || b) (some_true_more k a c)
     ∙ (ap (λ (b : Bool). (b || among m a) || (among k c || some_true a c)) (same_turned m k)
     ∙ or_middle (same_literal k m) (among m a) (among k c) (some_true a c))
 
@@ -59,7 +59,7 @@ unfolding proves_true some_true has_opposites
 proves_true_lem [] a = refl
 proves_true_lem (l ∷ c) a =
     ap (λ (b : Bool). among l a || b) (proves_true_lem c (opposite l ∷ a))
-    ∙ (ap (λ (b : Bool). among l a || (b || has_opposites c)) (some-true_more (opposite l) a c)
+    ∙ (ap (λ (b : Bool). among l a || (b || has_opposites c)) (some_true_more (opposite l) a c)
     ∙ or_last (among l a) (among (opposite l) c) (some_true a c) (has_opposites c))
 
 or_turned : (x y z : Bool) → (x || (y || z)) ≡ (y || (x || z))

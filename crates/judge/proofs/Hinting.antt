@@ -124,8 +124,8 @@ module _ (heads lits : List ℕ) (n : ℕ) (marks : List ℕ) (ready : Ready hea
           case = rw l.is (hint_case place at.0 id at.1 turns (start_at heads (place + 1) - start_at heads place) refl l.sight l.looks);
         }
 
-    pub hint-not-live : (turns : ℕ) → found ≡ Nowhere turns → Hints heads lits n marks id NotLive turns
-    hint-not-live turns e = record {
+    pub hint_not_live_lem : (turns : ℕ) → found ≡ Nowhere turns → Hints heads lits n marks id NotLive turns
+    hint_not_live_lem turns e = record {
       search = turns;
       literals = 0;
       halvings = subst (AtMostHalvings n) (ap turns_of e) few;

@@ -21,7 +21,7 @@ use Rattle.meaning.specs.Meaning.{
   Within,
   AllWithin,
 }
-use Rattle.meaning.proofs.Truth.{bool_cases, clash, and_both, and-false_cases}
+use Rattle.meaning.proofs.Truth.{bool_cases, clash, and_both, and_false_cases}
 
 -- What Unsolvable says of one assignment.
 abbrev pub Fails : Assignment → List Clause → Type 0
@@ -41,7 +41,7 @@ one_fails a (c ∷ cs) e =
     ⊎_elim
     (λ f. (c, inl refl, f))
     (λ f. let rest = one_fails a cs f in (rest.0, inr rest.1, rest.2))
-    (and-false_cases (satisfies a c) (satisfies_all a cs) e)
+    (and_false_cases (satisfies a c) (satisfies_all a cs) e)
 
 pub no_assignment_solves : (F : Formula) → Unsolvable F ↔ ((a : Assignment) → Solves a F → ⊥)
 no_assignment_solves F = (

@@ -38,6 +38,6 @@ pub both_and : (b c : Bool) → b ≡ true → c ≡ true → (b && c) ≡ true
 both_and true c e f = f
 both_and false c e f = absurd (false≢true e)
 
-pub and-false_cases : (b c : Bool) → (b && c) ≡ false → (b ≡ false) ⊎ (c ≡ false)
-and-false_cases true c e = inr e
-and-false_cases false c e = inl refl
+pub and_false_cases : (b c : Bool) → (b && c) ≡ false → (b ≡ false) ⊎ (c ≡ false)
+and_false_cases true c e = inr e
+and_false_cases false c e = inl refl

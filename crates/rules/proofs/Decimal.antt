@@ -4,7 +4,7 @@ use Rattle.std.proofs.Math.Option.{some}
 use Rattle.meaning.proofs.Truth.{bool_cases, both_and}
 use Rattle.rules.specs.Text.{is_digit, digits, positive, plus, minus, signed, same_bytes, token}
 use Rattle.rules.specs.Written.{decimal_onto, decimal}
-use Rattle.rules.proofs.Words.{digit_range, digit-not_blank, NoBlank}
+use Rattle.rules.proofs.Words.{digit_range, digit_not_blank, NoBlank}
 
 -- One digit.
 
@@ -63,7 +63,7 @@ decimal-digits n = onto_digits (suc n) n [] tt
 
 pub digits_no_blank : (w : List ℕ) → AllDigits w → NoBlank w
 digits_no_blank [] h = tt
-digits_no_blank (b ∷ w) h = (digit-not_blank b h.0, digits_no_blank w h.1)
+digits_no_blank (b ∷ w) h = (digit_not_blank b h.0, digits_no_blank w h.1)
 
 -- Reading back.
 

@@ -39,13 +39,13 @@ other_ids : says R "900 1 2 0 1 3 6 0\n901 1 0 900 8 4 6 0\n902 2 0 900 7 3 5 0\
 unfolding verdict
 other_ids = refl
 
-hint-behind_conflict : says R "9 1 2 0 1 3 6 777 0\n10 1 0 9 8 4 6 0\n11 2 0 9 7 3 5 0\n12 0 10 11 2 4 5 0\n" ≡ verified 4
+hint_behind_conflict : says R "9 1 2 0 1 3 6 777 0\n10 1 0 9 8 4 6 0\n11 2 0 9 7 3 5 0\n12 0 10 11 2 4 5 0\n" ≡ verified 4
 unfolding verdict
-hint-behind_conflict = refl
+hint_behind_conflict = refl
 
-bytes-behind_the_end : says R "9 1 2 0 1 3 6 0\n10 1 0 9 8 4 6 0\n11 2 0 9 7 3 5 0\n12 0 10 11 2 4 5 0\nxyz" ≡ verified 4
+bytes_behind_the_end : says R "9 1 2 0 1 3 6 0\n10 1 0 9 8 4 6 0\n11 2 0 9 7 3 5 0\n12 0 10 11 2 4 5 0\nxyz" ≡ verified 4
 unfolding verdict
-bytes-behind_the_end = refl
+bytes_behind_the_end = refl
 
 with_groups : says R "9 -1 0 -1 5 7 -6 2 7 -8 2 5 0\n9 d 2 5 7 0\n10 2 0 9 1 3 6 0\n11 0 9 10 8 4 6 0\n" ≡ verified 4
 unfolding verdict
@@ -83,21 +83,21 @@ id_in_use_ground : ends R "8 1 2 0 1 3 6 0\n" ≡ ends_refused 1 (id_not_fresh 8
 unfolding ending
 id_in_use_ground = refl
 
-hint-not-live : says R "9 1 2 0 1 3 99 0\n" ≡ refused_step 1
+hint_not_live_lem : says R "9 1 2 0 1 3 99 0\n" ≡ refused_step 1
 unfolding verdict
-hint-not-live = refl
+hint_not_live_lem = refl
 
-hint-not-live_ground : ends R "9 1 2 0 1 3 99 0\n" ≡ ends_refused 1 (hint_not_live 99)
+hint_not_live_ground : ends R "9 1 2 0 1 3 99 0\n" ≡ ends_refused 1 (hint_not_live 99)
 unfolding ending
-hint-not-live_ground = refl
+hint_not_live_ground = refl
 
-hint-not_ready : says R "9 1 2 0 3 1 6 0\n" ≡ refused_step 1
+hint_not_ready : says R "9 1 2 0 3 1 6 0\n" ≡ refused_step 1
 unfolding verdict
-hint-not_ready = refl
+hint_not_ready = refl
 
-hint-not_ready_ground : ends R "9 1 2 0 3 1 6 0\n" ≡ ends_refused 1 (hint_not_forced 3)
+hint_not_ready_ground : ends R "9 1 2 0 3 1 6 0\n" ≡ ends_refused 1 (hint_not_forced 3)
 unfolding ending
-hint-not_ready_ground = refl
+hint_not_ready_ground = refl
 
 deleted_twice : says R "9 d 1 0\n9 d 1 0\n" ≡ refused_step 2
 unfolding verdict
@@ -159,9 +159,9 @@ empty_clause_used = refl
 
 -- Section 7: what careless checkers call unsolvable.
 
-wrong_1_groups-not_asked_for : says "p cnf 1 1\n1 0\n" "2 -1 0 0\n3 0 1 2 0\n" ≡ refused_step 1
+wrong_1_groups_not_asked_for : says "p cnf 1 1\n1 0\n" "2 -1 0 0\n3 0 1 2 0\n" ≡ refused_step 1
 unfolding verdict
-wrong_1_groups-not_asked_for = refl
+wrong_1_groups_not_asked_for = refl
 
 wrong_2_assignment_carried_over : says "p cnf 3 4\n1 2 0\n2 0\n1 3 0\n-3 0\n" "5 -1 0 -1 2 -3 2 0\n6 0 5 3 4 0\n" ≡ refused_step 1
 unfolding verdict
@@ -201,13 +201,13 @@ no_conflict_and_empty_ground : ends "p cnf 1 1\n1 0\n" "2 0 1 0\n" ≡ ends_refu
 unfolding ending
 no_conflict_and_empty_ground = refl
 
-mismatch-before_bad_hint : says "p cnf 1 2\n1 0\n1 0\n" "3 -1 0 -1 99 0\n" ≡ refused_step 1
+mismatch_before_bad_hint : says "p cnf 1 2\n1 0\n1 0\n" "3 -1 0 -1 99 0\n" ≡ refused_step 1
 unfolding verdict
-mismatch-before_bad_hint = refl
+mismatch_before_bad_hint = refl
 
-mismatch-before_bad_hint_ground : ends "p cnf 1 2\n1 0\n1 0\n" "3 -1 0 -1 99 0\n" ≡ ends_refused 1 (groups_dont_match 2)
+mismatch_before_bad_hint_ground : ends "p cnf 1 2\n1 0\n1 0\n" "3 -1 0 -1 99 0\n" ≡ ends_refused 1 (groups_dont_match 2)
 unfolding ending
-mismatch-before_bad_hint_ground = refl
+mismatch_before_bad_hint_ground = refl
 
 fresh_before_opposites : says "p cnf 1 1\n1 0\n" "1 1 -1 0 0\n" ≡ refused_step 1
 unfolding verdict
@@ -317,13 +317,13 @@ a_group_twice_ground : ends "p cnf 2 2\n1 2 0\n2 0\n" "3 -1 0 -1 2 -1 2 0\n" ≡
 unfolding ending
 a_group_twice_ground = refl
 
-group_hint-not-live : says "p cnf 2 2\n1 2 0\n2 0\n" "3 -1 0 -1 99 0\n" ≡ refused_step 1
+group_hint_not_live : says "p cnf 2 2\n1 2 0\n2 0\n" "3 -1 0 -1 99 0\n" ≡ refused_step 1
 unfolding verdict
-group_hint-not-live = refl
+group_hint_not_live = refl
 
-group_hint-not-live_ground : ends "p cnf 2 2\n1 2 0\n2 0\n" "3 -1 0 -1 99 0\n" ≡ ends_refused 1 (hint_not_live 99)
+group_hint_not_live_ground : ends "p cnf 2 2\n1 2 0\n2 0\n" "3 -1 0 -1 99 0\n" ≡ ends_refused 1 (hint_not_live 99)
 unfolding ending
-group_hint-not-live_ground = refl
+group_hint_not_live_ground = refl
 
 group_at_the_limit : says "p cnf 1 1\n1 0\n" "2 -1 0 -268435455 0\n" ≡ refused_step 1
 unfolding verdict
@@ -341,13 +341,13 @@ hints_of_a_done_group : says "p cnf 2 1\n1 2 0\n" "2 -1 -2 0 -1 99 0\n" ≡ unfi
 unfolding verdict
 hints_of_a_done_group = refl
 
-a_true-literal_in_a_hint : says "p cnf 2 2\n1 0\n1 2 0\n" "3 0 1 2 0\n" ≡ refused_step 1
+a_true_literal_in_a_hint : says "p cnf 2 2\n1 0\n1 2 0\n" "3 0 1 2 0\n" ≡ refused_step 1
 unfolding verdict
-a_true-literal_in_a_hint = refl
+a_true_literal_in_a_hint = refl
 
-a_true-literal_in_a_hint_ground : ends "p cnf 2 2\n1 0\n1 2 0\n" "3 0 1 2 0\n" ≡ ends_refused 1 (hint_not_forced 2)
+a_true_literal_in_a_hint_ground : ends "p cnf 2 2\n1 0\n1 2 0\n" "3 0 1 2 0\n" ≡ ends_refused 1 (hint_not_forced 2)
 unfolding ending
-a_true-literal_in_a_hint_ground = refl
+a_true_literal_in_a_hint_ground = refl
 
 groups_go_on_from_rule_3 : says "p cnf 3 3\n2 0\n1 3 0\n-2 3 0\n" "4 -1 0 1 -2 3 0\n" ≡ unfinished 1
 unfolding verdict

@@ -42,9 +42,9 @@ repeats_are_kept : reads "p cnf 1 2\n1 1 0 0" ≡ some (record { vars = 1; claus
 unfolding read_formula
 repeats_are_kept = refl
 
-a_literal-and_its_opposite : reads "p cnf 1 1\n1 -1 0\n" ≡ some (record { vars = 1; clauses = (pos 1 ∷ neg 1 ∷ []) ∷ [] })
+a_literal_and_its_opposite : reads "p cnf 1 1\n1 -1 0\n" ≡ some (record { vars = 1; clauses = (pos 1 ∷ neg 1 ∷ []) ∷ [] })
 unfolding read_formula
-a_literal-and_its_opposite = refl
+a_literal_and_its_opposite = refl
 
 greatest_V : reads "p cnf 16777215 1\n16777215 -16777215 0\n" ≡ some (record { vars = 16777215; clauses = (pos 16777215 ∷ neg 16777215 ∷ []) ∷ [] })
 unfolding read_formula
@@ -88,9 +88,9 @@ tab_in_the_header : reads "p cnf\t1 1\n1 0\n" ≡ none
 unfolding read_formula
 tab_in_the_header = refl
 
-one-number_in_the_header : reads "p cnf 1\n1 0\n" ≡ none
+one_number_in_the_header : reads "p cnf 1\n1 0\n" ≡ none
 unfolding read_formula
-one-number_in_the_header = refl
+one_number_in_the_header = refl
 
 three_numbers_in_the_header : reads "p cnf 1 1 1\n1 0\n" ≡ none
 unfolding read_formula
@@ -120,9 +120,9 @@ too_few_for_C : reads "p cnf 1 16777216\n1 0\n" ≡ none
 unfolding read_formula
 too_few_for_C = refl
 
-V_with_a_leading-zero : reads "p cnf 01 1\n1 0\n" ≡ none
+V_with_a_leading_zero : reads "p cnf 01 1\n1 0\n" ≡ none
 unfolding read_formula
-V_with_a_leading-zero = refl
+V_with_a_leading_zero = refl
 
 V_with_a_plus : reads "p cnf +1 1\n1 0\n" ≡ none
 unfolding read_formula
@@ -148,9 +148,9 @@ literal_beyond_V : reads "p cnf 1 1\n2 0\n" ≡ none
 unfolding read_formula
 literal_beyond_V = refl
 
-negative-literal_beyond_V : reads "p cnf 1 1\n-2 0\n" ≡ none
+negative_literal_beyond_V : reads "p cnf 1 1\n-2 0\n" ≡ none
 unfolding read_formula
-negative-literal_beyond_V = refl
+negative_literal_beyond_V = refl
 
 not_1 : reads "p cnf 1 1\n4294967297 0\n" ≡ none
 unfolding read_formula
@@ -244,9 +244,9 @@ C_with_a_plus : reads "p cnf 1 +1\n1 0\n" ≡ none
 unfolding read_formula
 C_with_a_plus = refl
 
-C_with_a_leading-zero : reads "p cnf 1 01\n1 0\n" ≡ none
+C_with_a_leading_zero : reads "p cnf 1 01\n1 0\n" ≡ none
 unfolding read_formula
-C_with_a_leading-zero = refl
+C_with_a_leading_zero = refl
 
 minus_zero_C : reads "p cnf 0 -0\n" ≡ none
 unfolding read_formula

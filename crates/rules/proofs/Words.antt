@@ -13,9 +13,9 @@ pub digit_range : (b : ℕ) → is_digit b ≡ true → (48 ≤ b) × (b ≤ 57)
 unfolding is_digit
 digit_range b e = let both = and_both (leb 48 b) (leb b 57) e in (leb-true 48 b both.0, leb-true b 57 both.1)
 
-pub digit-not_blank : (b : ℕ) → is_digit b ≡ true → is_blank b ≡ false
+pub digit_not_blank : (b : ℕ) → is_digit b ≡ true → is_blank b ≡ false
 unfolding is_blank
-digit-not_blank b e =
+digit_not_blank b e =
     let r = digit_range b e in
     neither_or _ _
     (neither_or _ _ (neither_or _ _ (ne_eqb b 32 (λ q. omega arith)) (ne_eqb b 9 (λ q. omega arith))) (ne_eqb b 13 (λ q. omega arith)))

@@ -4,9 +4,9 @@ use Rattle.std.proofs.Common.{◌≡◌, ℕ, ◌+◌, ◌-◌, ◌*◌, ◌<◌
 use borrow.Author.Tests.{eqb-false}
 use Rattle.meaning.proofs.Truth.{bool_cases}
 use Rattle.rules.specs.Text.{is_blank, is_digit, digits, positive, word}
-use Rattle.rules.proofs.Words.{digit_range, digit-not_blank}
+use Rattle.rules.proofs.Words.{digit_range, digit_not_blank}
 use Rattle.text.specs.Scan.{most, ends_word, sized, Stops, Numbered, Ran, Digits, Positive}
-use Rattle.text.proofs.Places.{word_end, word_on, word-stop, ends_empty, ends_end, ends-not, digit_by, no_digit-below, no_digit_above}
+use Rattle.text.proofs.Places.{word_end, word_on, word-stop, ends_empty, ends_end, ends-not, digit_by, no_digit_below, no_digit_above}
 
 -- Sized numbers
 
@@ -47,7 +47,7 @@ module _ (s : List ℕ) (i v : ℕ) where
   pub numbered_on : (x n : ℕ) → i < length s → is_digit (get_or s i 0) ≡ true → Numbered (v * 10 + (get_or s i 0 - 48)) (i + 1) (drop (i + 1) s) x n → Numbered v i (drop i s) x n
   unfolding digits
   numbered_on x n h d r =
-      let w = word_on s i h (digit-not_blank (get_or s i 0) d) in
+      let w = word_on s i h (digit_not_blank (get_or s i 0) d) in
       record { is_value = rw (w, d, digits) r.is_value; is_next = λ z. omega (arith, ap length w, r.is_next z) }
 
 -- A run of digits
@@ -60,7 +60,7 @@ module _ (s : List ℕ) (first from v i : ℕ) (d : Digits s first from v i) whe
   ran_past l = record { back = d.back; stops = λ h. record { stops = λ k. absurd (omega arith) } }
 
   pub ran_below : get_or s i 0 < 48 → Ran s first from v i
-  ran_below b = record { back = d.back; stops = λ h. record { stops = λ k. no_digit-below (get_or s i 0) b } }
+  ran_below b = record { back = d.back; stops = λ h. record { stops = λ k. no_digit_below (get_or s i 0) b } }
 
   pub ran_above : 57 < get_or s i 0 → Ran s first from v i
   ran_above b = record { back = d.back; stops = λ h. record { stops = λ k. no_digit_above (get_or s i 0) b } }
@@ -120,7 +120,7 @@ module _ (s : List ℕ) (at : ℕ) where
   unfolding positive digits
   positive_on x n h lo hi r =
       let d = digit_by (get_or s at 0) (omega arith) hi in
-      let w = word_on s at h (digit-not_blank (get_or s at 0) d) in
+      let w = word_on s at h (digit_not_blank (get_or s at 0) d) in
       let z : 0 * 10 + (get_or s at 0 - 48) ≡ get_or s at 0 - 48 = omega arith in
       record {
         is_value = rw (w, ne_eqb (get_or s at 0) 48 (λ q. omega arith), positive, d, digits, z) r.is_value;

@@ -27,9 +27,9 @@ pub digit_by : (b : ℕ) → 48 ≤ b → b ≤ 57 → is_digit b ≡ true
 unfolding is_digit
 digit_by b lo hi = both_and _ _ (le-leb 48 b lo) (le-leb b 57 hi)
 
-pub no_digit-below : (b : ℕ) → b < 48 → is_digit b ≡ false
+pub no_digit_below : (b : ℕ) → b < 48 → is_digit b ≡ false
 unfolding is_digit
-no_digit-below b h = rw (lt-leb 48 b h)
+no_digit_below b h = rw (lt-leb 48 b h)
 
 pub no_digit_above : (b : ℕ) → 57 < b → is_digit b ≡ false
 unfolding is_digit

@@ -3,7 +3,7 @@
 use Rattle.std.proofs.Common.{◌≡◌, ℕ, zero, suc, ◌+◌, ◌-◌, ◌*◌, ◌/◌, ◌%◌, ◌^◌, ◌<◌, ◌≤◌, false, ltb, List, length, get_or, drop, sym, refl, ap, ◌∙◌, subst, inl, inr, arith, ltb-false, ltb-true}
 use Rattle.meaning.proofs.Truth.{bool_cases}
 use Rattle.rules.specs.Text.{is_blank}
-use Rattle.rules.proofs.Words.{digit-not_blank}
+use Rattle.rules.proofs.Words.{digit_not_blank}
 use Rattle.text.specs.Scan.{most, blanks, Numbered, Digits, Scans, Positive, Plain, AboveNought, Sign, bytes_at, Bytes, MovedUp, EachUpTo, EachAtMost, said, Short}
 use Rattle.text.specs.declared.Token.TheVariants.{Plus, Minus}
 use Rattle.text.proofs.Places.{blank_space, digit_by, blanks_on, blanks-stop, ends_at}
@@ -83,7 +83,7 @@ unsigned_said s at (suc n) (suc k) e a o l g m h lo hi space =
     rw z record {
       positive = omega (arith, b, said_least n (e % 256) (e / 256));
       plain = record {
-        no_blank = digit-not_blank (get_or s (at + 1) 0) (digit_by (get_or s (at + 1) 0) (omega arith) hi);
+        no_blank = digit_not_blank (get_or s (at + 1) 0) (digit_by (get_or s (at + 1) 0) (omega arith) hi);
         no_nought = λ q. omega arith;
         no_letter = λ q. omega arith;
         no_sign = λ q. omega arith;

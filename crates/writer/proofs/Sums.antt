@@ -138,5 +138,5 @@ module _ (heads lits : List ℕ) (n vars : ℕ) {clauses digits spent : ℕ} (d 
 pub whole_says : {need room length turns : ℕ} {fit : Fit} → Answers need room fit → fit ≡ Whole length turns → FitsWhole need room length turns
 whole_says {need} {room} a e = subst (Answers need room) e a
 
-pub too_long-says : {need room turns : ℕ} {fit : Fit} → Answers need room fit → fit ≡ TooLong turns → IsTooLong need room turns
-too_long-says {need} {room} a e = subst (Answers need room) e a
+pub too_long_says : {need room turns : ℕ} {fit : Fit} → Answers need room fit → fit ≡ TooLong turns → IsTooLong need room turns
+too_long_says {need} {room} a e = subst (Answers need room) e a

@@ -1,7 +1,7 @@
 -- `formula::write_stored` meets its contract: the length first, and then the bytes. Assumes nothing.
 use Rattle.std.proofs.Common.{arith, length}
 use Rattle.writer.specs.Text.{length_of}
-use Rattle.writer.proofs.Sums.{whole_says, too_long-says}
+use Rattle.writer.proofs.Sums.{whole_says, too_long_says}
 use Rattle.formula.proofs.Writings.{stored_whole, stored_long}
 use Rattle.formula.proofs.write_stored.Goals as goal
 
@@ -20,4 +20,4 @@ returns-in-Whole c =
 pub returns-in-TooLong : goal.returns-in-TooLong
 returns-in-TooLong c =
     let a = c.args in
-    stored_long _ _ _ (too_long-says {need = length_of a.heads.now a.lits.now a.n a.vars} {room = length a.out.now} c.written_length-f.ensures c.in-TooLong.is)
+    stored_long _ _ _ (too_long_says {need = length_of a.heads.now a.lits.now a.n a.vars} {room = length a.out.now} c.written_length-f.ensures c.in-TooLong.is)

@@ -1,7 +1,7 @@
 -- `hints::hint` meets its contract: the clause that is found is looked at, and where none is found none is live. Assumes
 -- nothing.
 use Rattle.std.proofs.Common.{arith}
-use Rattle.judge.proofs.Hinting.{ready_searchable, found_lookable, found_short_at, hint-live, hint-not-live}
+use Rattle.judge.proofs.Hinting.{ready_searchable, found_lookable, found_short_at, hint-live, hint_not_live_lem}
 use Rattle.judge.proofs.hints.hint.Goals as goal
 
 pub lookup_at-found-requires : goal.lookup_at-found-requires
@@ -17,4 +17,4 @@ returns-in-At c =
 
 pub returns-in-Nowhere : goal.returns-in-Nowhere
 returns-in-Nowhere c =
-    hint-not-live _ _ _ _ c.requires.ready _ _ c.lookup_at-found.ensures.place c.lookup_at-found.ensures.turns (omega arith) _ c.in-Nowhere.is
+    hint_not_live_lem _ _ _ _ c.requires.ready _ _ c.lookup_at-found.ensures.place c.lookup_at-found.ensures.turns (omega arith) _ c.in-Nowhere.is
