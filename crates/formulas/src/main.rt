@@ -2,7 +2,7 @@
 // held to the file `stdout`.
 #![tactic(auto)]
 
-ghost use Rattle.std.specs.Prelude.{◌≡◌, ◌≤◌, length, IfOk};
+ghost use Rattle.std.specs.Prelude.{◌≡◌, ◌≤◌, length, take, IfOk};
 
 use formula::{FormulaRead, FormulaWritten};
 use std::fs::File;
@@ -74,7 +74,7 @@ fn with_little(rt: &HostRuntime, text: &[u8]) -> io::Result<()> {
 // Puts the file, or as much of it as there is room for, at the front of `text`, and returns how many bytes that is. Where reading
 // fails, `text` is as long as it was, and nothing is said of what is in it.
 fn read_full(file: &mut File, text: &mut [u8]) -> io::Result<usize>
-    ensures within { IfOk result (λ n. n ≤ length text.new) }
+    ensures within { IfOk result (λ n. (n ≤ length text.new) × (n ≡ length (take n text.new))) }
     ensures long { length text.new ≡ length text.old }
 {
     let mut n = 0;

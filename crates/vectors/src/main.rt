@@ -6,7 +6,7 @@
 // from the document and docs/DECISIONS.md, in another language; they are for a store that is long enough.
 #![tactic(auto)]
 
-ghost use Rattle.std.specs.Prelude.{◌≡◌, ◌≤◌, length, IfOk};
+ghost use Rattle.std.specs.Prelude.{◌≡◌, ◌≤◌, length, take, IfOk};
 
 use checker::Answer;
 use std::fs::File;
@@ -220,7 +220,7 @@ fn with_parts(rt: &HostRuntime, formula: &[u8], proof: &[u8], expected: &[u8]) -
 // Puts the file, or as much of it as there is room for, at the front of `text`, and returns how many bytes that is. Where reading
 // fails, `text` is as long as it was, and nothing is said of what is in it.
 fn read_full(file: &mut File, text: &mut [u8]) -> io::Result<usize>
-    ensures within { IfOk result (λ n. n ≤ length text.new) }
+    ensures within { IfOk result (λ n. (n ≤ length text.new) × (n ≡ length (take n text.new))) }
     ensures long { length text.new ≡ length text.old }
 {
     let mut n = 0;
@@ -236,7 +236,7 @@ fn read_full(file: &mut File, text: &mut [u8]) -> io::Result<usize>
 
 // Puts the file with this name and ending into text, and returns its length.
 fn read_file(rt: &HostRuntime, name: &str, ending: &str, text: &mut [u8]) -> io::Result<usize>
-    ensures within { IfOk result (λ n. n ≤ length text.new) }
+    ensures within { IfOk result (λ n. (n ≤ length text.new) × (n ≡ length (take n text.new))) }
     ensures long { length text.new ≡ length text.old }
 {
     let path = format!(in rt.alloc(); "{name}{ending}")?;
