@@ -9,14 +9,38 @@
 ghost use Rattle.std.specs.Prelude.{◌≡◌, ◌≤◌, length, take, IfOk};
 
 use checker::Answer;
+use itoa::Buffer;
 use std::fs::File;
 use std::io::{Read, Write};
 use std::{env, io};
 
+// Puts text behind the first n bytes of out, as far as there is room, and returns how many bytes there are then.
+fn append(out: &mut [u8], n: usize, text: &[u8]) -> usize
+    ensures { (result ≤ length out.new) × (result ≡ length (take result out.new)) }
+{
+    if out.len() < n {
+        return 0;
+    }
+    let mut end = n;
+    for b in text {
+        if end >= out.len() {
+            break;
+        }
+        out[end] = *b;
+        end += 1;
+    }
+    end
+}
+
 // Whether the answer with this number and this step is written as expected.
-fn is_expected(rt: &HostRuntime, number: u64, step: u64, expected: &[u8]) -> io::Result<bool> {
-    let text = format!(in rt.alloc(); "{number} {step}\n")?;
-    Ok(text.as_bytes() == expected)
+fn is_expected(number: &[u8], step: u64, expected: &[u8]) -> bool {
+    let mut digits = Buffer::new();
+    let mut text = [0u8; 40];
+    let mut n = append(&mut text, 0, number);
+    n = append(&mut text, n, b" ");
+    n = append(&mut text, n, digits.format(step).as_bytes());
+    n = append(&mut text, n, b"\n");
+    &text[..n] == expected
 }
 
 fn say_whether(rt: &HostRuntime, good: bool, expected: &[u8]) -> io::Result<()> {
@@ -28,10 +52,9 @@ fn say_whether(rt: &HostRuntime, good: bool, expected: &[u8]) -> io::Result<()> 
     to.write_all(expected)
 }
 
-fn say_step(rt: &HostRuntime, number: u64, step: u64, expected: &[u8]) -> io::Result<()> {
+fn say_step(rt: &HostRuntime, number: &str, step: u64, expected: &[u8]) -> io::Result<()> {
     print!(rt; ": answer {number} step {step}")?;
-    let good = is_expected(rt, number, step, expected)?;
-    say_whether(rt, good, expected)
+    say_whether(rt, is_expected(number.as_bytes(), step, expected), expected)
 }
 
 fn say_unreadable(rt: &HostRuntime, expected: &[u8]) -> io::Result<()> {
@@ -41,11 +64,11 @@ fn say_unreadable(rt: &HostRuntime, expected: &[u8]) -> io::Result<()> {
 
 fn show(rt: &HostRuntime, a: Answer, expected: &[u8]) -> io::Result<()> {
     match a {
-        Answer::Verified { step } => say_step(rt, 0, step, expected),
+        Answer::Verified { step } => say_step(rt, "0", step, expected),
         Answer::UnreadableFormula => say_unreadable(rt, expected),
-        Answer::UnreadableStep { step } => say_step(rt, 2, step, expected),
-        Answer::Refused { step } => say_step(rt, 3, step, expected),
-        Answer::Unfinished { steps } => say_step(rt, 4, steps, expected),
+        Answer::UnreadableStep { step } => say_step(rt, "2", step, expected),
+        Answer::Refused { step } => say_step(rt, "3", step, expected),
+        Answer::Unfinished { steps } => say_step(rt, "4", steps, expected),
         Answer::TooShort => println!(rt; ": answer 5"),
     }
 }
@@ -239,9 +262,14 @@ fn read_file(rt: &HostRuntime, name: &str, ending: &str, text: &mut [u8]) -> io:
     ensures within { IfOk result (λ n. (n ≤ length text.new) × (n ≡ length (take n text.new))) }
     ensures long { length text.new ≡ length text.old }
 {
-    let path = format!(in rt.alloc(); "{name}{ending}")?;
-    let mut file = File::open(rt, path)?;
-    read_full(&mut file, text)
+    let mut path = [0u8; 4096];
+    let m = append(&mut path, 0, name.as_bytes());
+    let n = append(&mut path, m, ending.as_bytes());
+    // Only a name that is cut off here is no text, and no file has so long a name.
+    match str::from_utf8(&path[..n]) {
+        Ok(path) => read_full(&mut File::open(rt, path)?, text),
+        Err(_) => Err(io::Error::from(io::ErrorKind::InvalidInput)),
+    }
 }
 
 fn one(rt: &HostRuntime, name: &str, parts: bool) -> io::Result<()> {
@@ -264,8 +292,8 @@ fn main(rt: HostRuntime) -> io::Result<()> {
     for name in env::args(&rt)?.skip(1) {
         one(&rt, name.as_str(), false)?;
     }
-    for name in env::args(&rt)?.skip(1).take(1) {
-        one(&rt, name.as_str(), true)?;
+    match env::args(&rt)?.skip(1).next() {
+        Some(name) => one(&rt, name.as_str(), true),
+        None => one(&rt, "", true),
     }
-    Ok(())
 }
