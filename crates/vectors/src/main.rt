@@ -6,70 +6,79 @@
 // from the document and docs/DECISIONS.md, in another language; they are for a store that is long enough.
 #![tactic(auto)]
 
-ghost use Rattle.std.specs.Prelude.{◌≡◌, ◌≤◌, length, take, IfOk};
+ghost use Rattle.std.specs.Prelude.{◌≡◌, length, IfOk, IfSome};
+ghost use Rattle.io.specs.Counts.{IsPrefixLen};
 
 use checker::Answer;
-use itoa::Buffer;
+use std::env::{Env, FillError};
 use std::fs::File;
-use std::io::{Read, Write};
-use std::{env, io};
+use std::io::{Error, ErrorKind, Read, Result, Write, writer};
+
+fn say(rt: &HostRuntime, text: &[u8]) -> Result<()> {
+    let mut to = writer(rt);
+    to.write_all(text)
+}
 
 // Puts text behind the first n bytes of out, as far as there is room, and returns how many bytes there are then.
 fn append(out: &mut [u8], n: usize, text: &[u8]) -> usize
-    ensures { (result ≤ length out.new) × (result ≡ length (take result out.new)) }
+    ensures { IsPrefixLen result out.new }
 {
     if out.len() < n {
         return 0;
     }
     let mut end = n;
-    for b in text {
+    let mut i = 0;
+    while i < text.len() {
         if end >= out.len() {
             break;
         }
-        out[end] = *b;
+        out[end] = text[i];
         end += 1;
+        i += 1;
     }
     end
 }
 
 // Whether the answer with this number and this step is written as expected.
 fn is_expected(number: &[u8], step: u64, expected: &[u8]) -> bool {
-    let mut digits = Buffer::new();
+    let mut digits = [0u8; 20];
+    let k = io::decimal(step, &mut digits);
     let mut text = [0u8; 40];
     let mut n = append(&mut text, 0, number);
     n = append(&mut text, n, b" ");
-    n = append(&mut text, n, digits.format(step).as_bytes());
+    n = append(&mut text, n, &digits[..k]);
     n = append(&mut text, n, b"\n");
     &text[..n] == expected
 }
 
-fn say_whether(rt: &HostRuntime, good: bool, expected: &[u8]) -> io::Result<()> {
+fn say_whether(rt: &HostRuntime, good: bool, expected: &[u8]) -> Result<()> {
     if good {
-        return println!(rt; ", as expected");
+        return say(rt, b", as expected\n");
     }
-    print!(rt; ", DIFFERS from ")?;
-    let mut to = io::writer(rt);
-    to.write_all(expected)
+    say(rt, b", DIFFERS from ")?;
+    say(rt, expected)
 }
 
-fn say_step(rt: &HostRuntime, number: &str, step: u64, expected: &[u8]) -> io::Result<()> {
-    print!(rt; ": answer {number} step {step}")?;
-    say_whether(rt, is_expected(number.as_bytes(), step, expected), expected)
+fn say_step(rt: &HostRuntime, number: &[u8], step: u64, expected: &[u8]) -> Result<()> {
+    say(rt, b": answer ")?;
+    say(rt, number)?;
+    print!(rt; " step {step}")?;
+    say_whether(rt, is_expected(number, step, expected), expected)
 }
 
-fn say_unreadable(rt: &HostRuntime, expected: &[u8]) -> io::Result<()> {
-    print!(rt; ": answer 1")?;
+fn say_unreadable(rt: &HostRuntime, expected: &[u8]) -> Result<()> {
+    say(rt, b": answer 1")?;
     say_whether(rt, expected == b"1\n".as_slice(), expected)
 }
 
-fn show(rt: &HostRuntime, a: Answer, expected: &[u8]) -> io::Result<()> {
+fn show(rt: &HostRuntime, a: Answer, expected: &[u8]) -> Result<()> {
     match a {
-        Answer::Verified { step } => say_step(rt, "0", step, expected),
+        Answer::Verified { step } => say_step(rt, b"0", step, expected),
         Answer::UnreadableFormula => say_unreadable(rt, expected),
-        Answer::UnreadableStep { step } => say_step(rt, "2", step, expected),
-        Answer::Refused { step } => say_step(rt, "3", step, expected),
-        Answer::Unfinished { steps } => say_step(rt, "4", steps, expected),
-        Answer::TooShort => println!(rt; ": answer 5"),
+        Answer::UnreadableStep { step } => say_step(rt, b"2", step, expected),
+        Answer::Refused { step } => say_step(rt, b"3", step, expected),
+        Answer::Unfinished { steps } => say_step(rt, b"4", steps, expected),
+        Answer::TooShort => say(rt, b": answer 5\n"),
     }
 }
 
@@ -85,9 +94,9 @@ fn step_of(a: Answer) -> u64 {
 }
 
 // A step takes a turn at least.
-fn say_turns(rt: &HostRuntime, step: u64, turns: u64) -> io::Result<()> {
+fn say_turns(rt: &HostRuntime, step: u64, turns: u64) -> Result<()> {
     if turns < step {
-        return println!(rt; "    DIFFERS: fewer turns than steps");
+        return say(rt, b"    DIFFERS: fewer turns than steps\n");
     }
     Ok(())
 }
@@ -104,7 +113,7 @@ fn checked(
     guess: &mut [u32],
     marks: &mut [u8],
     tape: &mut [u32],
-) -> io::Result<()> {
+) -> Result<()> {
     let r = checker::check(formula, proof, heads, lits, hints, guess, marks, tape);
     let a = r.answer;
     show(rt, a, expected)?;
@@ -113,7 +122,7 @@ fn checked(
 
 // With a store that always does for two files of 4,096 bytes each with variables up to 2,047. What is in it before does not
 // matter.
-fn with_room(rt: &HostRuntime, formula: &[u8], proof: &[u8], expected: &[u8]) -> io::Result<()> {
+fn with_room(rt: &HostRuntime, formula: &[u8], proof: &[u8], expected: &[u8]) -> Result<()> {
     let mut heads = [4294967295u32; 12450];
     let mut lits = [1u32; 4200];
     let mut hints = [4294967295u32; 2100];
@@ -127,14 +136,14 @@ fn with_room(rt: &HostRuntime, formula: &[u8], proof: &[u8], expected: &[u8]) ->
 }
 
 // With a store for two dozen short clauses with variables up to 9.
-fn with_little(rt: &HostRuntime, formula: &[u8], proof: &[u8], expected: &[u8]) -> io::Result<()> {
+fn with_little(rt: &HostRuntime, formula: &[u8], proof: &[u8], expected: &[u8]) -> Result<()> {
     let mut heads = [0u32; 78];
     let mut lits = [0u32; 64];
     let mut hints = [0u32; 24];
     let mut guess = [0u32; 5];
     let mut marks = [0u8; 20];
     let mut tape = [0u32; 64];
-    print!(rt; "    with little room")?;
+    say(rt, b"    with little room")?;
     checked(
         rt, formula, proof, expected, &mut heads, &mut lits, &mut hints, &mut guess, &mut marks,
         &mut tape,
@@ -142,7 +151,7 @@ fn with_little(rt: &HostRuntime, formula: &[u8], proof: &[u8], expected: &[u8]) 
 }
 
 // With a store of which one part after the other is short.
-fn with_parts(rt: &HostRuntime, formula: &[u8], proof: &[u8], expected: &[u8]) -> io::Result<()> {
+fn with_parts(rt: &HostRuntime, formula: &[u8], proof: &[u8], expected: &[u8]) -> Result<()> {
     let mut heads = [0u32; 78];
     let mut lits = [0u32; 64];
     let mut hints = [0u32; 24];
@@ -155,7 +164,7 @@ fn with_parts(rt: &HostRuntime, formula: &[u8], proof: &[u8], expected: &[u8]) -
     let mut few_guesses = [0u32; 0];
     let mut few_marks = [0u8; 9];
     let mut few_noted = [0u32; 2];
-    print!(rt; "with few heads")?;
+    say(rt, b"with few heads")?;
     checked(
         rt,
         formula,
@@ -168,7 +177,7 @@ fn with_parts(rt: &HostRuntime, formula: &[u8], proof: &[u8], expected: &[u8]) -
         &mut marks,
         &mut tape,
     )?;
-    print!(rt; "with few literals")?;
+    say(rt, b"with few literals")?;
     checked(
         rt,
         formula,
@@ -181,7 +190,7 @@ fn with_parts(rt: &HostRuntime, formula: &[u8], proof: &[u8], expected: &[u8]) -
         &mut marks,
         &mut tape,
     )?;
-    print!(rt; "with few hints")?;
+    say(rt, b"with few hints")?;
     checked(
         rt,
         formula,
@@ -194,7 +203,7 @@ fn with_parts(rt: &HostRuntime, formula: &[u8], proof: &[u8], expected: &[u8]) -
         &mut marks,
         &mut tape,
     )?;
-    print!(rt; "with no guesses")?;
+    say(rt, b"with no guesses")?;
     checked(
         rt,
         formula,
@@ -207,7 +216,7 @@ fn with_parts(rt: &HostRuntime, formula: &[u8], proof: &[u8], expected: &[u8]) -
         &mut marks,
         &mut tape,
     )?;
-    print!(rt; "with few marks")?;
+    say(rt, b"with few marks")?;
     checked(
         rt,
         formula,
@@ -220,7 +229,7 @@ fn with_parts(rt: &HostRuntime, formula: &[u8], proof: &[u8], expected: &[u8]) -
         &mut few_marks,
         &mut tape,
     )?;
-    print!(rt; "with a short tape")?;
+    say(rt, b"with a short tape")?;
     checked(
         rt,
         formula,
@@ -233,7 +242,7 @@ fn with_parts(rt: &HostRuntime, formula: &[u8], proof: &[u8], expected: &[u8]) -
         &mut marks,
         &mut few_noted,
     )?;
-    print!(rt; "with all of it")?;
+    say(rt, b"with all of it")?;
     checked(
         rt, formula, proof, expected, &mut heads, &mut lits, &mut hints, &mut guess, &mut marks,
         &mut tape,
@@ -242,8 +251,8 @@ fn with_parts(rt: &HostRuntime, formula: &[u8], proof: &[u8], expected: &[u8]) -
 
 // Puts the file, or as much of it as there is room for, at the front of `text`, and returns how many bytes that is. Where reading
 // fails, `text` is as long as it was, and nothing is said of what is in it.
-fn read_full(file: &mut File, text: &mut [u8]) -> io::Result<usize>
-    ensures within { IfOk result (λ n. (n ≤ length text.new) × (n ≡ length (take n text.new))) }
+fn read_full(file: &mut File, text: &mut [u8]) -> Result<usize>
+    ensures within { IfOk result (λ n. IsPrefixLen n text.new) }
     ensures long { length text.new ≡ length text.old }
 {
     let mut n = 0;
@@ -257,43 +266,73 @@ fn read_full(file: &mut File, text: &mut [u8]) -> io::Result<usize>
     Ok(n)
 }
 
-// Puts the file with this name and ending into text, and returns its length.
-fn read_file(rt: &HostRuntime, name: &str, ending: &str, text: &mut [u8]) -> io::Result<usize>
-    ensures within { IfOk result (λ n. (n ≤ length text.new) × (n ≡ length (take n text.new))) }
-    ensures long { length text.new ≡ length text.old }
-{
-    let mut path = [0u8; 4096];
-    let m = append(&mut path, 0, name.as_bytes());
-    let n = append(&mut path, m, ending.as_bytes());
-    // Only a name that is cut off here is no text, and no file has so long a name.
-    match str::from_utf8(&path[..n]) {
-        Ok(path) => read_full(&mut File::open(rt, path)?, text),
-        Err(_) => Err(io::Error::from(io::ErrorKind::InvalidInput)),
+// The file with this path, which has to be text. The kit's files have no other names.
+fn open(rt: &HostRuntime, path: &[u8]) -> Result<File> {
+    match str::from_utf8(path) {
+        Ok(path) => File::open(rt, path),
+        Err(_) => Err(Error::from(ErrorKind::InvalidInput)),
     }
 }
 
-fn one(rt: &HostRuntime, name: &str, parts: bool) -> io::Result<()> {
-    let mut formula = [0u8; 4096];
-    let f = read_file(rt, name, ".cnf", &mut formula)?;
-    let mut proof = [0u8; 4096];
-    let p = read_file(rt, name, ".lrat", &mut proof)?;
-    let mut expected = [0u8; 4096];
-    let e = read_file(rt, name, ".answer", &mut expected)?;
+// Puts the argument, or as much of it as there is room for, at the front of `text`, and returns how many bytes that is, or nothing
+// where there is no such argument.
+fn argument(rt: &HostRuntime, i: usize, text: &mut [u8]) -> Option<usize>
+    ensures within { IfSome result (λ n. IsPrefixLen n text.new) }
+    ensures long { length text.new ≡ length text.old }
+{
+    match rt.arg(i, text) {
+        Ok(n) => Some(n),
+        Err(FillError::TooLong) => Some(text.len()),
+        Err(FillError::NotPresent) => None,
+    }
+}
+
+// Puts the file with this name and ending into text, and returns its length. Where it is not there, or reading fails, `text` is as
+// long as it was, and nothing is said of what is in it.
+fn read_file(rt: &HostRuntime, name: &[u8], ending: &[u8], text: &mut [u8]) -> Result<usize>
+    ensures within { IfOk result (λ n. IsPrefixLen n text.new) }
+    ensures long { length text.new ≡ length text.old }
+{
+    let mut path = io::buffer();
+    let m = append(&mut path, 0, name);
+    let n = append(&mut path, m, ending);
+    read_full(&mut open(rt, &path[..n])?, text)
+}
+
+fn one(rt: &HostRuntime, name: &[u8], parts: bool) -> Result<()> {
+    let mut formula = io::buffer();
+    let f = read_file(rt, name, b".cnf", &mut formula)?;
+    let mut proof = io::buffer();
+    let p = read_file(rt, name, b".lrat", &mut proof)?;
+    let mut expected = io::buffer();
+    let e = read_file(rt, name, b".answer", &mut expected)?;
     if parts {
         return with_parts(rt, &formula[..f], &proof[..p], &expected[..e]);
     }
-    print!(rt; "{name}")?;
+    say(rt, name)?;
     with_room(rt, &formula[..f], &proof[..p], &expected[..e])?;
     with_little(rt, &formula[..f], &proof[..p], &expected[..e])
 }
 
-// All of them, and the first once more.
-fn main(rt: HostRuntime) -> io::Result<()> {
-    for name in env::args(&rt)?.skip(1) {
-        one(&rt, name.as_str(), false)?;
+// Whether there is such an argument; if so, its pair is shown.
+fn named(rt: &HostRuntime, i: usize, parts: bool) -> Result<bool> {
+    let mut name = io::buffer();
+    match argument(rt, i, &mut name) {
+        Some(m) => one(rt, &name[..m], parts)?,
+        None => return Ok(false),
     }
-    match env::args(&rt)?.skip(1).next() {
-        Some(name) => one(&rt, name.as_str(), true),
-        None => one(&rt, "", true),
+    Ok(true)
+}
+
+// All of them, and the first once more; with none at all, the empty name, of which there are no files.
+fn main(rt: HostRuntime) -> Result<()> {
+    for i in 1..usize::MAX {
+        if !named(&rt, i, false)? {
+            break;
+        }
     }
+    if !named(&rt, 1, true)? {
+        return one(&rt, b"", true);
+    }
+    Ok(())
 }
