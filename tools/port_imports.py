@@ -29,6 +29,10 @@ def common(kit):
     return out
 
 
+def imported(names):
+    return f"use Rattle.std.proofs.Common.{{{', '.join(names)}}}"
+
+
 def turn(text, passed):
     lines, own, at, kept = [], [], None, {}
     for line in text.split("\n"):
@@ -50,7 +54,10 @@ def turn(text, passed):
             kept.setdefault(to, []).extend(rest)
     if at is None:
         return text
-    new = [f"use Rattle.std.proofs.Common.{{{', '.join(dict.fromkeys(own))}}}"] if own else []
+    own = list(dict.fromkeys(own))
+    # A long import is parted into words and laws.
+    parts = [own] if len(imported(own).encode()) <= 240 else [[n for n in own if n in PRELUDE], [n for n in own if n not in PRELUDE]]
+    new = [imported(part) for part in parts if part]
     return "\n".join(lines[:at] + new + [f"use {to}.{{{', '.join(names)}}}" for to, names in kept.items()] + lines[at:])
 
 

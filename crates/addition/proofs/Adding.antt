@@ -1,6 +1,7 @@
 -- Laws of the rules put together: behind the hints of rule 3, the hints themselves, and the clause that is to be added. Assumes
 -- nothing.
-use Rattle.std.proofs.Common.{ℕ, ◌+◌, ◌-◌, ◌*◌, ◌^◌, ◌<◌, ◌≤◌, ◌≡◌, refl, sym, ap, subst, ◌∙◌, Bool, true, false, true≢false, List, [], ◌∷◌, map, arith, add-one, lt-ltb, le-ltb, length, get_or, take, drop, length-take, drop_of_length-le, length-take-le, get_or-drop, get_or-take}
+use Rattle.std.proofs.Common.{ℕ, ◌+◌, ◌-◌, ◌*◌, ◌^◌, ◌<◌, ◌≤◌, ◌≡◌, Bool, true, false, List, [], ◌∷◌, map, length, get_or, take, drop}
+use Rattle.std.proofs.Common.{refl, sym, ap, subst, ◌∙◌, true≢false, arith, add-one, lt-ltb, le-ltb, length-take, drop_of_length-le, length-take-le, get_or-drop, get_or-take}
 use Rattle.std.proofs.Math.Bool.{false≢true}
 use Rattle.std.proofs.Math.Option.{none, some}
 use Rattle.std.proofs.Math.Seq.{slice, slice-cons, length-slice}

@@ -1,7 +1,8 @@
 -- Laws of the turns: what hints can cost at most. Assumes nothing.
-use Rattle.std.proofs.Common.{ℕ, zero, suc, ◌+◌, ◌-◌, ◌*◌, ◌/◌, ◌%◌, ◌<◌, ◌≤◌, ◌≡◌, refl, sym, ap, ◌∙◌, List, [], ◌∷◌, ◌++◌, map, arith, add-one, add-mul, mul_comm, mul-le-mul, mul-le-mul_right, eqb-true, eqb, length}
-use Rattle.std.proofs.Math.Option.{some}
+use Rattle.std.proofs.Common.{ℕ, zero, suc, ◌+◌, ◌-◌, ◌*◌, ◌/◌, ◌%◌, ◌<◌, ◌≤◌, ◌≡◌, List, [], ◌∷◌, ◌++◌, map, eqb, length}
+use Rattle.std.proofs.Common.{refl, sym, ap, ◌∙◌, arith, add-one, add-mul, mul_comm, mul-le-mul, mul-le-mul_right, eqb-true}
 use borrow.Author.Tests.{eqb-false}
+use Rattle.std.proofs.Math.Option.{some}
 use Rattle.std.proofs.Math.ListN.{length-map}
 use Rattle.std.proofs.Math.Seq.{slice, length-slice}
 use Rattle.meaning.specs.Meaning.{Literal, Clause}

@@ -1,6 +1,7 @@
 -- Laws of looking at a clause: what is kept of the literals that are not false says what the document's definition, which
 -- takes them out first, says. The code keeps it as two numbers, and the laws as a value of `Open`. Assumes nothing.
-use Rattle.std.proofs.Common.{ℕ, zero, suc, ◌+◌, ◌<◌, ◌≤◌, ◌≡◌, refl, sym, ap, subst, ◌∙◌, ⊎_elim, true, false, List, [], ◌∷◌, map, add-one, arith, eqb-true, eq-eqb, ne_eqb, eqb, length, get_or, drop, drop_of_length-le, drop-cons}
+use Rattle.std.proofs.Common.{ℕ, zero, suc, ◌+◌, ◌<◌, ◌≤◌, ◌≡◌, true, false, List, [], ◌∷◌, map, eqb, length, get_or, drop}
+use Rattle.std.proofs.Common.{refl, sym, ap, subst, ◌∙◌, ⊎_elim, add-one, arith, eqb-true, eq-eqb, ne_eqb, drop_of_length-le, drop-cons}
 use borrow.Author.Tests.{eqb-false}
 use Rattle.meaning.specs.Meaning.{Literal, Clause}
 use Rattle.meaning.proofs.Truth.{bool_cases}

@@ -1,7 +1,8 @@
 -- The formula in the store: the variables of its literals, and the state that the run starts from. Assumes nothing.
-use Rattle.std.proofs.Common.{ℕ, zero, suc, ◌+◌, ◌-◌, ◌/◌, ◌<◌, ◌≤◌, max, ◌≡◌, refl, sym, ap, ◌∙◌, inl, inr, ⊎_elim, Bool, true, false, not, List, [], ◌∷◌, ◌++◌, map, arith, length, get_or, take, get_or-take, length-take-le, get_or-drop}
-use Rattle.std.proofs.Math.Seq.{slice, length-slice}
+use Rattle.std.proofs.Common.{ℕ, zero, suc, ◌+◌, ◌-◌, ◌/◌, ◌<◌, ◌≤◌, max, ◌≡◌, Bool, true, false, not, List, [], ◌∷◌, ◌++◌, map, length, get_or, take}
+use Rattle.std.proofs.Common.{refl, sym, ap, ◌∙◌, inl, inr, ⊎_elim, arith, get_or-take, length-take-le, get_or-drop}
 use borrow.Author.Tests.{not-true, not-false}
+use Rattle.std.proofs.Math.Seq.{slice, length-slice}
 use Rattle.meaning.specs.Meaning.{Clause, Formula, Within, AllWithin}
 use Rattle.rules.specs.Judging.{Live}
 use Rattle.rules.specs.Answers.{numbered, start}

@@ -1,5 +1,6 @@
 -- Laws of moving clauses down. Assumes nothing.
-use Rattle.std.proofs.Common.{◌≡◌, ℕ, ◌+◌, ◌-◌, ◌*◌, ◌/◌, ◌%◌, ◌^◌, ◌<◌, ◌≤◌, eqb, ◌⊎◌, List, [], ◌∷◌, ◌++◌, map, length, get_or, take, set, sym, refl, ap, ◌∙◌, ⊎_elim, append-nil, arith, length-set, length-take-le, get_or-drop, get_or-set_other, get_or-take, get_or-set_same, ext_get_or, eqb-true}
+use Rattle.std.proofs.Common.{◌≡◌, ℕ, ◌+◌, ◌-◌, ◌*◌, ◌/◌, ◌%◌, ◌^◌, ◌<◌, ◌≤◌, eqb, ◌⊎◌, List, [], ◌∷◌, ◌++◌, map, length, get_or, take, set}
+use Rattle.std.proofs.Common.{sym, refl, ap, ◌∙◌, ⊎_elim, append-nil, arith, length-set, length-take-le, get_or-drop, get_or-set_other, get_or-take, get_or-set_same, ext_get_or, eqb-true}
 use borrow.Author.Tests.{eqb-false}
 use Rattle.std.proofs.Math.Seq.{slice, length-slice}
 use Rattle.meaning.proofs.Truth.{bool_cases}

@@ -1,8 +1,9 @@
 -- Laws of the store for callers: what it holds when it is empty, what is found in it, what it holds after a clause is added or
 -- deleted, after literals behind its own are written, and when it is the store of a formula. Assumes nothing.
-use Rattle.std.proofs.Common.{◌≡◌, ℕ, zero, suc, ◌+◌, ◌*◌, ◌/◌, ◌%◌, ◌^◌, ◌<◌, ◌≤◌, eqb, List, [], ◌∷◌, ◌++◌, map, length, take, sym, refl, ap, ◌∙◌, ⊎_elim, arith, length-append, eqb-true}
-use Rattle.std.proofs.Math.Option.{none, some}
+use Rattle.std.proofs.Common.{◌≡◌, ℕ, zero, suc, ◌+◌, ◌*◌, ◌/◌, ◌%◌, ◌^◌, ◌<◌, ◌≤◌, eqb, List, [], ◌∷◌, ◌++◌, map, length, take}
+use Rattle.std.proofs.Common.{sym, refl, ap, ◌∙◌, ⊎_elim, arith, length-append, eqb-true}
 use borrow.Author.Tests.{eqb-false}
+use Rattle.std.proofs.Math.Option.{none, some}
 use Rattle.std.proofs.Math.Seq.{slice}
 use Rattle.meaning.specs.Meaning.{Clause}
 use Rattle.meaning.proofs.Truth.{bool_cases}

@@ -1,7 +1,7 @@
 -- Laws of looking up, by id, in live clauses: in a list that is put together, and in what the two lists hold. Assumes nothing.
 use Rattle.std.proofs.Common.{◌≡◌, ℕ, zero, suc, ◌*◌, ◌/◌, ◌%◌, ◌<◌, eqb, List, [], ◌∷◌, ◌++◌, sym, refl, ap, ◌∙◌, ⊎_elim, arith, eq-eqb, ne_eqb, eqb-true}
-use Rattle.std.proofs.Math.Option.{none, some}
 use borrow.Author.Tests.{eqb-false}
+use Rattle.std.proofs.Math.Option.{none, some}
 use Rattle.meaning.specs.Meaning.{Clause}
 use Rattle.meaning.proofs.Truth.{bool_cases}
 use Rattle.rules.specs.Judging.{Live, find, remove}

@@ -1,5 +1,6 @@
 -- Deleting one clause, and the run over the ids. Assumes nothing.
-use Rattle.std.proofs.Common.{ℕ, ◌+◌, ◌-◌, ◌*◌, ◌/◌, ◌%◌, ◌^◌, ◌<◌, ◌≤◌, ◌≡◌, refl, sym, ap, subst, ◌∙◌, ⊎_elim, List, [], ◌∷◌, map, arith, add-one, length, get_or, take, drop, drop_of_length-le, pow_mono, drop-cons, get_or-take, length-take-le}
+use Rattle.std.proofs.Common.{ℕ, ◌+◌, ◌-◌, ◌*◌, ◌/◌, ◌%◌, ◌^◌, ◌<◌, ◌≤◌, ◌≡◌, List, [], ◌∷◌, map, length, get_or, take, drop}
+use Rattle.std.proofs.Common.{refl, sym, ap, subst, ◌∙◌, ⊎_elim, arith, add-one, drop_of_length-le, pow_mono, drop-cons, get_or-take, length-take-le}
 use Rattle.std.proofs.Math.Option.{none, some}
 use Rattle.meaning.specs.Meaning.{Clause}
 use Rattle.rules.specs.Judging.{Live, State, refused, goes_on, deletion_not_live, find, remove, judge_deletion}

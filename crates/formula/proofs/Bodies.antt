@@ -1,7 +1,8 @@
 -- Reading a clause: what a token does, and the state of a reader between two tokens. Assumes nothing.
-use Rattle.std.proofs.Common.{ℕ, suc, ◌+◌, ◌*◌, ◌≤◌, ◌<◌, ◌≡◌, refl, sym, ap, ◌∙◌, true, false, List, [], ◌∷◌, ◌++◌, map, append_assoc, append-nil, add-one, arith, le-leb, leb-true, leb, length, take, drop, get_or, set, length-append, length-set, take-append-drop, drop-cons, length-take-le}
-use Rattle.std.proofs.Math.Option.{Option, none, some}
+use Rattle.std.proofs.Common.{ℕ, suc, ◌+◌, ◌*◌, ◌≤◌, ◌<◌, ◌≡◌, true, false, List, [], ◌∷◌, ◌++◌, map, leb, length, take, drop, get_or, set}
+use Rattle.std.proofs.Common.{refl, sym, ap, ◌∙◌, append_assoc, append-nil, add-one, arith, le-leb, leb-true, length-append, length-set, take-append-drop, drop-cons, length-take-le}
 use borrow.Author.Tests.{lt-leb}
+use Rattle.std.proofs.Math.Option.{Option, none, some}
 use Rattle.std.proofs.Math.Seq.{set_at}
 use Rattle.meaning.specs.Meaning.{pos, neg, Clause}
 use Rattle.meaning.proofs.Truth.{bool_cases}

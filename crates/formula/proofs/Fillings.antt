@@ -1,5 +1,6 @@
 -- Reading clauses one after the other into the store: the state between two clauses. Assumes nothing.
-use Rattle.std.proofs.Common.{ℕ, zero, suc, ◌+◌, ◌*◌, ◌-◌, ◌≤◌, ◌<◌, ◌≡◌, refl, sym, ap, subst, ◌∙◌, inl, inr, Bool, true, false, List, [], ◌∷◌, ◌++◌, map, append_assoc, append-nil, arith, ltb-true, ltb-false, ltb, length, take, drop, get_or, length-append, length-drop, get_or-take, take_at, drop_at, length-take-le, get_or-append-add}
+use Rattle.std.proofs.Common.{ℕ, zero, suc, ◌+◌, ◌*◌, ◌-◌, ◌≤◌, ◌<◌, ◌≡◌, Bool, true, false, List, [], ◌∷◌, ◌++◌, map, ltb, length, take, drop, get_or}
+use Rattle.std.proofs.Common.{refl, sym, ap, subst, ◌∙◌, inl, inr, append_assoc, append-nil, arith, ltb-true, ltb-false, length-append, length-drop, get_or-take, take_at, drop_at, length-take-le, get_or-append-add}
 use Rattle.std.proofs.Math.Option.{Option, none, some}
 use Rattle.std.proofs.Math.ListN.{length-map, get_or-append}
 use Rattle.std.proofs.Math.Seq.{slice, take-append-add}

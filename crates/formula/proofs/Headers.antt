@@ -1,7 +1,8 @@
 -- The line `p cnf V C`: its prefix, and a whole slice as a number. Assumes nothing.
-use Rattle.std.proofs.Common.{ℕ, suc, ◌+◌, ◌*◌, ◌-◌, ◌≤◌, ◌<◌, ◌≡◌, refl, sym, ap, ◌∙◌, Bool, true, false, List, [], ◌∷◌, add-one, arith, eq-eqb, ne_eqb, eqb-true, le-leb, leb-true, ltb-true, ltb-false, eqb, leb, ltb, length, take, drop, get_or, drop_of_length-le, drop-cons}
-use Rattle.std.proofs.Math.Option.{Option, none, some}
+use Rattle.std.proofs.Common.{ℕ, suc, ◌+◌, ◌*◌, ◌-◌, ◌≤◌, ◌<◌, ◌≡◌, Bool, true, false, List, [], ◌∷◌, eqb, leb, ltb, length, take, drop, get_or}
+use Rattle.std.proofs.Common.{refl, sym, ap, ◌∙◌, add-one, arith, eq-eqb, ne_eqb, eqb-true, le-leb, leb-true, ltb-true, ltb-false, drop_of_length-le, drop-cons}
 use borrow.Author.Tests.{eqb-false, lt-leb}
+use Rattle.std.proofs.Math.Option.{Option, none, some}
 use Rattle.std.proofs.Math.Seq.{slice}
 use Rattle.meaning.proofs.Truth.{bool_cases, and_both, clash}
 use Rattle.rules.specs.Tools.{bytes, only, ◌>>=◌}

@@ -1,5 +1,6 @@
 -- Comment lines, and the first place of a byte: laws for the loops of src/opening.rt. Assumes nothing.
-use Rattle.std.proofs.Common.{ℕ, ◌+◌, ◌≤◌, ◌<◌, ◌≡◌, refl, ap, ◌∙◌, true, false, List, [], ◌∷◌, ◌++◌, append_assoc, append-nil, add-one, arith, eq-eqb, ne_eqb, length, take, drop, get_or, drop_of_length-le, drop-cons, take-suc, length-take-le}
+use Rattle.std.proofs.Common.{ℕ, ◌+◌, ◌≤◌, ◌<◌, ◌≡◌, true, false, List, [], ◌∷◌, ◌++◌, length, take, drop, get_or}
+use Rattle.std.proofs.Common.{refl, ap, ◌∙◌, append_assoc, append-nil, add-one, arith, eq-eqb, ne_eqb, drop_of_length-le, drop-cons, take-suc, length-take-le}
 use Rattle.std.proofs.Math.Seq.{slice, slice_empty, drop-append-le}
 use Rattle.rules.specs.Formula.{after_comments, before, behind}
 use Rattle.formula.specs.Opening.{AfterLine, AfterComments, FirstAt}

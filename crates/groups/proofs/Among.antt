@@ -1,5 +1,6 @@
 -- A literal among those of a clause, one after the other. Assumes nothing.
-use Rattle.std.proofs.Common.{ℕ, ◌+◌, ◌<◌, ◌≤◌, ◌≡◌, refl, sym, ap, ◌∙◌, Bool, true, false, ◌||◌, List, [], ◌∷◌, ◌++◌, map, arith, add-one, eq-eqb, ne_eqb, eqb, length, get_or, take, take-suc, take_all}
+use Rattle.std.proofs.Common.{ℕ, ◌+◌, ◌<◌, ◌≤◌, ◌≡◌, Bool, true, false, ◌||◌, List, [], ◌∷◌, ◌++◌, map, eqb, length, get_or, take}
+use Rattle.std.proofs.Common.{refl, sym, ap, ◌∙◌, arith, add-one, eq-eqb, ne_eqb, take-suc, take_all}
 use Rattle.meaning.specs.Meaning.{Literal}
 use Rattle.rules.specs.Judging.{same_literal, among}
 use Rattle.clauses.specs.Codes.{literal_of}

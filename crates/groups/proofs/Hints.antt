@@ -1,5 +1,6 @@
 -- Laws of hints as numbers: what `leading` and `groups` of document 01 are, by the places where groups begin. Assumes nothing.
-use Rattle.std.proofs.Common.{ℕ, zero, suc, ◌+◌, ◌-◌, ◌%◌, ◌<◌, ◌≤◌, ◌≡◌, refl, sym, ap, ◌∙◌, List, [], ◌∷◌, map, arith, add-one, eqb-true, eqb, length, get_or, take, drop, drop_of_length-le, drop-cons}
+use Rattle.std.proofs.Common.{ℕ, zero, suc, ◌+◌, ◌-◌, ◌%◌, ◌<◌, ◌≤◌, ◌≡◌, List, [], ◌∷◌, map, eqb, length, get_or, take, drop}
+use Rattle.std.proofs.Common.{refl, sym, ap, ◌∙◌, arith, add-one, eqb-true, drop_of_length-le, drop-cons}
 use borrow.Author.Tests.{eqb-false}
 use Rattle.std.proofs.Math.Seq.{slice, slice-cons, slice_empty}
 use Rattle.meaning.proofs.Truth.{bool_cases}

@@ -1,6 +1,7 @@
 -- Laws of making the literals of a clause false: taken one by one, each under the assignment that those before it left, they
 -- say whether one is true or two are opposites. Assumes nothing.
-use Rattle.std.proofs.Common.{ℕ, suc, ◌+◌, ◌^◌, ◌<◌, ◌≤◌, ◌≡◌, refl, sym, ap, ◌∙◌, inl, inr, ⊎_elim, Bool, true, false, ◌||◌, true≢false, List, [], ◌∷◌, ◌++◌, map, append-nil, arith, add-one, eq-eqb, ne_eqb, length, get_or, drop, drop_of_length-le, drop-cons}
+use Rattle.std.proofs.Common.{ℕ, suc, ◌+◌, ◌^◌, ◌<◌, ◌≤◌, ◌≡◌, Bool, true, false, ◌||◌, List, [], ◌∷◌, ◌++◌, map, length, get_or, drop}
+use Rattle.std.proofs.Common.{refl, sym, ap, ◌∙◌, inl, inr, ⊎_elim, true≢false, append-nil, arith, add-one, eq-eqb, ne_eqb, drop_of_length-le, drop-cons}
 use Rattle.std.proofs.Math.Bool.{false≢true}
 use Rattle.meaning.specs.Meaning.{Literal, Clause}
 use Rattle.meaning.proofs.Truth.{bool_cases, or_left}

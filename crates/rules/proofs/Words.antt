@@ -1,7 +1,7 @@
 -- Laws of words and tokens: what a blank does, what a whole word does, and that a token's number is never 0. Assumes nothing.
 use Rattle.std.proofs.Common.{ℕ, ◌+◌, ◌*◌, ◌-◌, ◌≤◌, ◌≡◌, refl, ap, true, false, List, [], ◌∷◌, ◌++◌, map, arith, leb-true, leb-false, ne_eqb, eqb, leb}
-use Rattle.std.proofs.Math.Option.{Option, none, some}
 use borrow.Author.Tests.{eqb-false}
+use Rattle.std.proofs.Math.Option.{Option, none, some}
 use Rattle.meaning.proofs.Truth.{bool_cases, and_both, neither_or}
 use Rattle.rules.specs.Tools.{bytes}
 use Rattle.rules.specs.Text.{Proper, is_blank, is_digit, digits, positive, Token, plus, minus, signed, same_bytes, token, word, words_from, tokens}

@@ -1,7 +1,7 @@
 -- Tokens as codes: what an item says of the token that it came from, and when one is stored. Assumes nothing.
 use Rattle.std.proofs.Common.{ℕ, zero, suc, ◌+◌, ◌*◌, ◌≤◌, ◌<◌, min, ◌≡◌, refl, sym, ap, subst, ◌∙◌, inl, inr, Bool, true, false, List, arith, le-leb, leb-true, leb, length, set, length-set}
-use Rattle.std.proofs.Math.Option.{Option, none, some}
 use borrow.Author.Tests.{lt-leb}
+use Rattle.std.proofs.Math.Option.{Option, none, some}
 use Rattle.meaning.specs.Meaning.{pos, neg}
 use Rattle.meaning.proofs.Truth.{bool_cases, clash}
 use Rattle.rules.specs.Tools.{only}

@@ -1,6 +1,7 @@
 -- What one token more makes of a step that is read in part, by the functions of src/feeding.rt: the codes that they store
 -- stand for what `advance` says. Assumes nothing.
-use Rattle.std.proofs.Common.{ℕ, ◌+◌, ◌*◌, ◌/◌, ◌≤◌, ◌<◌, ◌≡◌, refl, sym, ap, subst, ◌∙◌, inl, inr, ⊎_elim, Bool, true, false, List, [], ◌∷◌, ◌++◌, map, arith, leb-true, leb, length, set, take-append-drop}
+use Rattle.std.proofs.Common.{ℕ, ◌+◌, ◌*◌, ◌/◌, ◌≤◌, ◌<◌, ◌≡◌, Bool, true, false, List, [], ◌∷◌, ◌++◌, map, leb, length, set}
+use Rattle.std.proofs.Common.{refl, sym, ap, subst, ◌∙◌, inl, inr, ⊎_elim, arith, leb-true, take-append-drop}
 use Rattle.std.proofs.Math.Option.{Option, none, some}
 use Rattle.meaning.proofs.Truth.{bool_cases}
 use Rattle.rules.specs.Limits.{max_variable, max_id}

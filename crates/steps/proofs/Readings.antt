@@ -1,5 +1,6 @@
 -- Reading a step from a text: the state of the reader between two tokens, and what a token makes of it. Assumes nothing.
-use Rattle.std.proofs.Common.{ℕ, ◌+◌, ◌≤◌, ◌<◌, ◌≡◌, refl, sym, ap, subst, ◌∙◌, ◌⊎◌, inl, inr, ⊎_elim, Bool, true, false, List, [], ◌∷◌, ◌++◌, map, append_assoc, arith, ltb-true, ltb-false, ltb, length, drop, length-append, length-drop, take-append-drop}
+use Rattle.std.proofs.Common.{ℕ, ◌+◌, ◌≤◌, ◌<◌, ◌≡◌, ◌⊎◌, Bool, true, false, List, [], ◌∷◌, ◌++◌, map, ltb, length, drop}
+use Rattle.std.proofs.Common.{refl, sym, ap, subst, ◌∙◌, inl, inr, ⊎_elim, append_assoc, arith, ltb-true, ltb-false, length-append, length-drop, take-append-drop}
 use Rattle.std.proofs.Math.Option.{none}
 use Rattle.std.proofs.Math.ListN.{length-map}
 use Rattle.meaning.proofs.Truth.{bool_cases, clash}

@@ -1,6 +1,7 @@
 -- Eight bytes as one number: what its bytes are, what they say as digits, and what is left of them once they are moved up.
 -- Assumes nothing.
-use Rattle.std.proofs.Common.{◌≡◌, ℕ, zero, suc, ◌+◌, ◌*◌, ◌/◌, ◌%◌, ◌^◌, ◌<◌, ◌≤◌, false, eqb, ltb, List, get_or, sym, refl, ap, ◌∙◌, mod-eq_of_lt, mul_assoc, suc-add, pow-suc, zero-add, mul-one, arith, pow-add, ltb-false, ltb-true, eqb-true}
+use Rattle.std.proofs.Common.{◌≡◌, ℕ, zero, suc, ◌+◌, ◌*◌, ◌/◌, ◌%◌, ◌^◌, ◌<◌, ◌≤◌, false, eqb, ltb, List, get_or}
+use Rattle.std.proofs.Common.{sym, refl, ap, ◌∙◌, mod-eq_of_lt, mul_assoc, suc-add, pow-suc, zero-add, mul-one, arith, pow-add, ltb-false, ltb-true, eqb-true}
 use Rattle.std.proofs.Math.Arith.{mod-mul}
 use lib.Bits.{bit_and, bit_or, and_block, and_high, or_shifted_r}
 use Rattle.meaning.proofs.Truth.{bool_cases, clash}

@@ -1,5 +1,6 @@
 -- What stands at a place of a text: blanks, words and digits at `drop i s`, by the byte that is there. Assumes nothing.
-use Rattle.std.proofs.Common.{◌≡◌, ℕ, suc, ◌+◌, ◌<◌, ◌≤◌, true, false, eqb, ltb, List, [], ◌∷◌, length, get_or, drop, sym, refl, ap, ◌∙◌, add-one, arith, length-drop, drop_of_length-le, get_or-drop, drop-cons, ltb-false, ltb-true, ne_eqb, le-leb}
+use Rattle.std.proofs.Common.{◌≡◌, ℕ, suc, ◌+◌, ◌<◌, ◌≤◌, true, false, eqb, ltb, List, [], ◌∷◌, length, get_or, drop}
+use Rattle.std.proofs.Common.{sym, refl, ap, ◌∙◌, add-one, arith, length-drop, drop_of_length-le, get_or-drop, drop-cons, ltb-false, ltb-true, ne_eqb, le-leb}
 use borrow.Author.Tests.{lt-leb}
 use Rattle.meaning.proofs.Truth.{bool_cases, both_and, clash}
 use Rattle.rules.specs.Text.{is_blank, is_digit, word}

@@ -1,6 +1,7 @@
 -- Short numbers at a place of a text: a few digits, a space behind them, a sign or none before them, and one space before that.
 -- Assumes nothing.
-use Rattle.std.proofs.Common.{◌≡◌, ℕ, zero, suc, ◌+◌, ◌-◌, ◌*◌, ◌/◌, ◌%◌, ◌^◌, ◌<◌, ◌≤◌, false, ltb, List, length, get_or, drop, sym, refl, ap, ◌∙◌, subst, inl, inr, arith, ltb-false, ltb-true}
+use Rattle.std.proofs.Common.{◌≡◌, ℕ, zero, suc, ◌+◌, ◌-◌, ◌*◌, ◌/◌, ◌%◌, ◌^◌, ◌<◌, ◌≤◌, false, ltb, List, length, get_or, drop}
+use Rattle.std.proofs.Common.{sym, refl, ap, ◌∙◌, subst, inl, inr, arith, ltb-false, ltb-true}
 use Rattle.meaning.proofs.Truth.{bool_cases}
 use Rattle.rules.specs.Text.{is_blank}
 use Rattle.rules.proofs.Words.{digit_not_blank}

@@ -1,5 +1,6 @@
 -- The decimal digits of a number, one at a time, from the last one on. Assumes nothing.
-use Rattle.std.proofs.Common.{ℕ, zero, suc, ◌+◌, ◌/◌, ◌%◌, ◌≤◌, ◌<◌, ◌^◌, ◌≡◌, refl, ap, ◌∙◌, List, [], ◌∷◌, ◌++◌, arith, pow-suc, ltb-true, ltb-false, lt-ltb, le-ltb, ltb, length, length-append}
+use Rattle.std.proofs.Common.{ℕ, zero, suc, ◌+◌, ◌/◌, ◌%◌, ◌≤◌, ◌<◌, ◌^◌, ◌≡◌, List, [], ◌∷◌, ◌++◌, ltb, length}
+use Rattle.std.proofs.Common.{refl, ap, ◌∙◌, arith, pow-suc, ltb-true, ltb-false, lt-ltb, le-ltb, length-append}
 use Rattle.meaning.proofs.Truth.{bool_cases}
 use Rattle.rules.specs.Written.{decimal_onto, decimal}
 use Rattle.writer.specs.Text.{Sized}

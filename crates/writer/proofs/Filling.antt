@@ -1,5 +1,6 @@
 -- Digits that are filled in from the back. Assumes nothing.
-use Rattle.std.proofs.Common.{ℕ, ◌+◌, ◌-◌, ◌/◌, ◌%◌, ◌≤◌, ◌<◌, ◌≡◌, refl, sym, ap, ◌∙◌, List, [], ◌∷◌, ◌++◌, append_assoc, append-nil, add-one, arith, length, take, drop, set, get_or, length-set, take-append-drop, take-suc, length-take-le}
+use Rattle.std.proofs.Common.{ℕ, ◌+◌, ◌-◌, ◌/◌, ◌%◌, ◌≤◌, ◌<◌, ◌≡◌, List, [], ◌∷◌, ◌++◌, length, take, drop, set, get_or}
+use Rattle.std.proofs.Common.{refl, sym, ap, ◌∙◌, append_assoc, append-nil, add-one, arith, length-set, take-append-drop, take-suc, length-take-le}
 use Rattle.std.proofs.Math.Seq.{set_at}
 use Rattle.rules.specs.Written.{decimal}
 use Rattle.writer.specs.Text.{Wrote, Filled}

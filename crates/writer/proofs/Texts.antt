@@ -1,5 +1,6 @@
 -- Texts in a slice, and how they join. Assumes nothing.
-use Rattle.std.proofs.Common.{ℕ, ◌+◌, ◌<◌, ◌≡◌, refl, sym, ap, ◌∙◌, List, [], ◌∷◌, ◌++◌, append_assoc, add-one, arith, length, take, drop, set, length-append, length-drop, take-append-drop, take_at, drop_at, drop-drop, length-take-le}
+use Rattle.std.proofs.Common.{ℕ, ◌+◌, ◌<◌, ◌≡◌, List, [], ◌∷◌, ◌++◌, length, take, drop, set}
+use Rattle.std.proofs.Common.{refl, sym, ap, ◌∙◌, append_assoc, add-one, arith, length-append, length-drop, take-append-drop, take_at, drop_at, drop-drop, length-take-le}
 use Rattle.std.proofs.Math.Seq.{set_split}
 use Rattle.writer.specs.Text.{Wrote, Room, WroteCounted}
 

@@ -12,7 +12,13 @@ overflow_add-before c =
     omega (arith, few)
 
 pub judge_behind-g-requires : goal.judge_behind-g-requires
-judge_behind-g-requires c = record { begun = clause_begun _ _ _ _ _ _ c.requires _ _ _ _ _ _ c.falsify_clause-r.ensures; t_in_bounds = c.falsify_clause-r.ensures.laid.room; clausal = clause_clausal _ _ _ _ _ _ c.requires _ _ _ _ _ _ c.falsify_clause-r.ensures }
+judge_behind-g-requires c =
+    let fell = c.falsify_clause-r.ensures in
+    record {
+      begun = clause_begun _ _ _ _ _ _ c.requires _ _ _ _ _ _ fell;
+      t_in_bounds = fell.laid.room;
+      clausal = clause_clausal _ _ _ _ _ _ c.requires _ _ _ _ _ _ fell;
+    }
 
 pub undo-back-requires : goal.undo-back-requires
 undo-back-requires c =

@@ -6,7 +6,13 @@ pub loop-at-init : goal.loop-at-init
 loop-at-init c = going_start _ _ _ _ _ _ _ _ _ c.requires.t_in_bounds c.requires.group_at
 
 pub judge_group-r-requires : goal.judge_group-r-requires
-judge_group-r-requires c = record { fit = going_fit _ _ _ _ _ _ _ _ _ _ _ _ _ _ c.loop-at.invariant c.requires.fit; t_in_bounds = c.loop-at.invariant.laid.room; one_group = record { more = c.loop-at-test.true; is_next = c.next_group-next.ensures } }
+judge_group-r-requires c =
+    let going = c.loop-at.invariant in
+    record {
+      fit = going_fit _ _ _ _ _ _ _ _ _ _ _ _ _ _ going c.requires.fit;
+      t_in_bounds = going.laid.room;
+      one_group = record { more = c.loop-at-test.true; is_next = c.next_group-next.ensures };
+    }
 
 pub shape_of-marks-then-ends : goal.shape_of-marks-then-ends
 shape_of-marks-then-ends c = ap length (c.judge_group-r.ensures.back ∙ c.loop-at.invariant.back)

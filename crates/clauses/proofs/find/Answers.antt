@@ -27,4 +27,9 @@ pub returns-then-head_at-id : goal.returns-then-head_at-id
 returns-then-head_at-id c = record { place = (omega arith, omega (arith, c.if-head_at-id.true, c.head_at-2.ensures)); turns = halving_end _ _ _ c.loop-span.invariant.1 c.loop-span.invariant.0.some c.loop-span-test.false }
 
 pub returns : goal.returns
-returns c = record { place = bracket_none _ _ _ _ _ c.loop-span.invariant.0 c.loop-span-test.false (λ e. c.if-head_at-id.false (omega (arith, c.head_at-2.ensures))); turns = halving_end _ _ _ c.loop-span.invariant.1 c.loop-span.invariant.0.some c.loop-span-test.false }
+returns c =
+    let bracket = c.loop-span.invariant.0 in
+    record {
+      place = bracket_none _ _ _ _ _ bracket c.loop-span-test.false (λ e. c.if-head_at-id.false (omega (arith, c.head_at-2.ensures)));
+      turns = halving_end _ _ _ c.loop-span.invariant.1 bracket.some c.loop-span-test.false;
+    }

@@ -8,7 +8,13 @@ pub returns-then-heads-lt3 : goal.returns-then-heads-lt3
 returns-then-heads-lt3 c = rest_short _ _ _ _ _ _ _ _ c.requires.feed_in_bounds c.if-heads-lt3.true
 
 pub read_clauses-r-requires : goal.read_clauses-r-requires
-read_clauses-r-requires c = record { at_in_bounds = c.behind-at.ensures.within; vars_le_max_variable = (c.requires.vars_le_max_variable.0, rw c.index-c.ensures c.requires.vars_le_max_variable.1); holds = holds_empty _ _ _ (omega (arith, c.if-heads-lt3.false, c.begin.ensures.long)) c.begin.ensures.begins }
+read_clauses-r-requires c =
+    let begun = c.begin.ensures in
+    record {
+      at_in_bounds = c.behind-at.ensures.within;
+      vars_le_max_variable = (c.requires.vars_le_max_variable.0, rw c.index-c.ensures c.requires.vars_le_max_variable.1);
+      holds = holds_empty _ _ _ (omega (arith, c.if-heads-lt3.false, begun.long)) begun.begins;
+    }
 
 pub finish-requires : goal.finish-requires
 finish-requires c =

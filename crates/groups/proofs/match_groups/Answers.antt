@@ -6,7 +6,13 @@ pub loop-k-init : goal.loop-k-init
 loop-k-init c = matching_start _ _ _ _ _ _ c.requires.next_group
 
 pub pass-r-requires : goal.pass-r-requires
-pass-r-requires c = record { placed = stored_placed _ _ _ c.requires.stored _ c.loop-k-test.true; group_at = c.loop-k.invariant.group; at_bound = matching_room _ _ _ _ _ _ _ _ _ c.loop-k.invariant c.loop-k-test.true c.requires.stored (omega arith) }
+pass-r-requires c =
+    let walked = c.loop-k.invariant in
+    record {
+      placed = stored_placed _ _ _ c.requires.stored _ c.loop-k-test.true;
+      group_at = walked.group;
+      at_bound = matching_room _ _ _ _ _ _ _ _ _ walked c.loop-k-test.true c.requires.stored (omega arith);
+    }
 
 pub returns-in-Differs : goal.returns-in-Differs
 returns-in-Differs c =

@@ -10,7 +10,17 @@ settle-requires c =
     deleted_more _ _ _ _ _ c.requires.tight _ _ c.delete_all-d.ensures _ _ c.in-Done.is
 
 pub returns-in-Done : goal.returns-in-Done
-returns-in-Done c = record { judged = deleted_on _ _ _ _ _ c.requires.tight _ _ c.delete_all-d.ensures _ _ c.in-Done.is _ _ _ c.settle.ensures.back; turns = deleted_turns _ _ _ _ _ c.requires.tight _ _ c.delete_all-d.ensures _ _ c.in-Done.is c.requires.many_in_bounds _ c.settle.ensures.turns }
+returns-in-Done c =
+    let gone = c.delete_all-d.ensures in
+    record {
+      judged = deleted_on _ _ _ _ _ c.requires.tight _ _ gone _ _ c.in-Done.is _ _ _ c.settle.ensures.back;
+      turns = deleted_turns _ _ _ _ _ c.requires.tight _ _ gone _ _ c.in-Done.is c.requires.many_in_bounds _ c.settle.ensures.turns;
+    }
 
 pub returns-in-NotLive : goal.returns-in-NotLive
-returns-in-NotLive c = record { judged = deleted_not _ _ _ _ _ c.requires.tight _ _ c.delete_all-d.ensures _ _ _ c.in-NotLive.is _ _; turns = deleted_not_turns _ _ _ _ _ c.requires.tight _ _ c.delete_all-d.ensures _ _ _ c.in-NotLive.is c.requires.many_in_bounds }
+returns-in-NotLive c =
+    let gone = c.delete_all-d.ensures in
+    record {
+      judged = deleted_not _ _ _ _ _ c.requires.tight _ _ gone _ _ _ c.in-NotLive.is _ _;
+      turns = deleted_not_turns _ _ _ _ _ c.requires.tight _ _ gone _ _ _ c.in-NotLive.is c.requires.many_in_bounds;
+    }

@@ -17,7 +17,12 @@ overflow_sub-next-in-Deletion c =
     omega (arith, deletion_later _ _ _ _ _ _ _ c.args.tape.now c.requires.keeps _ _ _ c.read_step-r.ensures _ _ c.in-Deletion.is)
 
 pub take_deletion-requires : goal.take_deletion-requires
-take_deletion-requires c = record { tight = deletion_tight _ _ _ _ _ _ _ c.args.tape.now c.requires.keeps _ _ _ c.read_step-r.ensures _ _ c.in-Deletion.is; many_in_bounds = deletion_few _ _ _ _ _ _ _ c.args.tape.now c.requires.keeps _ _ _ c.read_step-r.ensures _ _ c.in-Deletion.is }
+take_deletion-requires c =
+    let read = c.read_step-r.ensures in
+    record {
+      tight = deletion_tight _ _ _ _ _ _ _ c.args.tape.now c.requires.keeps _ _ _ read _ _ c.in-Deletion.is;
+      many_in_bounds = deletion_few _ _ _ _ _ _ _ c.args.tape.now c.requires.keeps _ _ _ read _ _ c.in-Deletion.is;
+    }
 
 pub overflow_sub-end : goal.overflow_sub-end
 overflow_sub-end c =

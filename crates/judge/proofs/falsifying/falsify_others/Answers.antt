@@ -6,7 +6,12 @@ pub loop-i-init : goal.loop-i-init
 loop-i-init c = falling_start _ _ _ _ _ c.requires.t_in_bounds
 
 pub falsify_one-r-requires : goal.falsify_one-r-requires
-falsify_one-r-requires c = record { paired = falling_paired _ _ _ _ _ _ _ _ _ c.loop-i.invariant c.requires.paired c.requires.marked; x_in_bounds = (falling_known _ _ _ _ _ _ _ _ _ c.loop-i.invariant c.requires.paired c.requires.marked c.loop-i-test.true, c.loop-i.invariant.laid.room) }
+falsify_one-r-requires c =
+    let falling = c.loop-i.invariant in
+    record {
+      paired = falling_paired _ _ _ _ _ _ _ _ _ falling c.requires.paired c.requires.marked;
+      x_in_bounds = (falling_known _ _ _ _ _ _ _ _ _ falling c.requires.paired c.requires.marked c.loop-i-test.true, falling.laid.room);
+    }
 
 pub shape_of-marks-then-ends : goal.shape_of-marks-then-ends
 shape_of-marks-then-ends c = c.falsify_one-r.ensures.laid.differ.long ∙ c.loop-i.invariant.laid.differ.long

@@ -8,7 +8,12 @@ pub lookup_at-found-requires : goal.lookup_at-found-requires
 lookup_at-found-requires c = record { searchable = ready_searchable _ _ _ _ c.requires.ready _ c.requires.id_bound; peeked = c.requires.peeked }
 
 pub look_there-requires : goal.look_there-requires
-look_there-requires c = record { lookable = found_lookable _ _ _ _ c.requires.ready _ _ c.lookup_at-found.ensures.place c.lookup_at-found.ensures.turns (omega arith) _ _ c.in-At.is; turns_bound = found_short_at _ _ _ _ c.requires.ready _ _ c.lookup_at-found.ensures.place c.lookup_at-found.ensures.turns (omega arith) _ _ c.in-At.is }
+look_there-requires c =
+    let found = c.lookup_at-found.ensures in
+    record {
+      lookable = found_lookable _ _ _ _ c.requires.ready _ _ found.place found.turns (omega arith) _ _ c.in-At.is;
+      turns_bound = found_short_at _ _ _ _ c.requires.ready _ _ found.place found.turns (omega arith) _ _ c.in-At.is;
+    }
 
 pub returns-in-At : goal.returns-in-At
 returns-in-At c =

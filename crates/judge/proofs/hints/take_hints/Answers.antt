@@ -27,7 +27,14 @@ pub guess_next-near-requires-in-loop-i : goal.guess_next-near-requires-in-loop-i
 guess_next-near-requires-in-loop-i c = c.requires.span.inside
 
 pub take_one-r-requires : goal.take_one-r-requires
-take_one-r-requires c = record { ready = taking_ready _ _ _ _ _ _ _ _ _ _ _ _ _ _ c.loop-i.invariant.0 c.requires.ready c.requires.span; t_in_bounds = c.loop-i.invariant.0.laid.room; id_bound = c.half-id.ensures.1; peeked = ahead_here _ _ _ _ _ _ _ c.half-id.ensures.0 c.loop-i-test.true c.loop-i.invariant.1 }
+take_one-r-requires c =
+    let taking = c.loop-i.invariant.0 in
+    record {
+      ready = taking_ready _ _ _ _ _ _ _ _ _ _ _ _ _ _ taking c.requires.ready c.requires.span;
+      t_in_bounds = taking.laid.room;
+      id_bound = c.half-id.ensures.1;
+      peeked = ahead_here _ _ _ _ _ _ _ c.half-id.ensures.0 c.loop-i-test.true c.loop-i.invariant.1;
+    }
 
 pub shape_of-marks-then-stops : goal.shape_of-marks-then-stops
 shape_of-marks-then-stops c =
