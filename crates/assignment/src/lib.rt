@@ -2,9 +2,18 @@
 // specs/Marks.antt says which assignment marks show. Nothing is promised of a tape that is too short: the caller asks first.
 #![tactic(auto)]
 
-ghost use Rattle.std.specs.Prelude.{◌≡◌, ◌-◌, ◌<◌, length};
+ghost use Rattle.std.specs.Prelude.{◌≡◌, ◌-◌, ◌<◌, ◌≤◌, length};
 ghost use Rattle.assignment.specs.Marks.{Paired, Marked, Falsifies, Undoable, Undone};
 ghost use Rattle.assignment.specs.Sight.{Counted, Latest, Behind, OneLooks, Looks};
+
+// The marks, the tape, and how many numbers are on the tape.
+#[derive(Drop)]
+pub struct Assignment<'a> {
+    pub marks: &'a mut [u8],
+    pub tape: &'a mut [u32],
+    pub t: usize,
+    ghost within: { t ≤ length tape.now },
+}
 
 // What a look at a clause shows: all its literals are false; all but one that has no value; or neither.
 #[derive(Clone, Copy)]

@@ -10,6 +10,22 @@ ghost use Rattle.clauses.specs.Store.{id_at, start_at, RoomFor, written, marked}
 ghost use Rattle.clauses.specs.Finding.{Searchable, Peeked, FoundIn, turns_of, Halvings, AtMostHalvings, reached_by};
 ghost use Rattle.clauses.specs.Moving.{Stored, Moved, Movable, OneMoved, AllMoved};
 
+// A value, and the turns that the loops made for it.
+#[derive(Clone, Copy)]
+pub struct Timed<T> {
+    pub value: T,
+    pub turns: u64,
+}
+
+// The store as it is looked at: the first `n` clauses by their heads, the literals, and the table of guesses.
+#[derive(Clone, Copy)]
+pub struct View<'a> {
+    pub heads: &'a [u32],
+    pub lits: &'a [u32],
+    pub guess: &'a [u32],
+    pub n: usize,
+}
+
 // The place of a live clause, or that there is none; and the turns that the search took.
 #[derive(Clone, Copy)]
 pub enum Found {
