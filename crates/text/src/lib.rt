@@ -12,7 +12,7 @@ ghost use Rattle.rules.specs.Text.{is_blank, word};
 ghost use Rattle.text.specs.Scan.{most, blanks, ends_word, Stops, Numbered, Ran, Positive, OneByte, Plain, Guessing, Wording, Scans, is_other, AboveNought, Sign, Bytes, MovedUp, EachAtMost, Tells, said, Short};
 
 // A token. A number is given by its size, at most 10^18. `Nothing` is the end of the text.
-#[derive(Clone, Copy)]
+#[derive(Clone, Copy, PartialEq, Eq)]
 pub enum Token {
     Nought,
     Plus(u64),
