@@ -1,5 +1,5 @@
 -- What a search for an id comes to, and how many turns it takes.
-use Rattle.std.specs.Prelude.{◌≡◌, ℕ, ◌*◌, ◌/◌, ◌^◌, ◌<◌, ◌≤◌, true, false, ◌⊎◌, List, ◌≢◌, nat_le}
+use Rattle.std.specs.Prelude.{◌≡◌, ℕ, ◌*◌, ◌/◌, ◌^◌, ◌<◌, ◌≤◌, true, false, ◌⊎◌, List, ◌≢◌, nat_le, Option, Some, None, ⊤}
 use Rattle.clauses.specs.Store.{id_at, RoomFor}
 use Rattle.clauses.specs.declared.Found.{Found}
 use Rattle.clauses.specs.declared.Found.TheVariants.{At, Nowhere}
@@ -18,6 +18,16 @@ pub record Searchable (heads : List ℕ) (n id : ℕ) : Type 0 where
 pub record Peeked (heads : List ℕ) (n id place : ℕ) : Type 0 where
   pub within : place ≤ n
   pub has : place < n → id_at heads place ≡ 2 * id
+
+-- The same of a peek that answers a place or none: none says nothing.
+abbrev pub Peeks : List ℕ → ℕ → ℕ → Option ℕ → Type 0
+Peeks heads n id (Some place) = (place < n) × (id_at heads place ≡ 2 * id)
+Peeks heads n id None = ⊤
+
+-- The place of the live clause with this id among the first n, or that there is none.
+abbrev pub Finds : List ℕ → ℕ → ℕ → Option ℕ → Type 0
+Finds heads n id (Some place) = (place < n) × (id_at heads place ≡ 2 * id)
+Finds heads n id None = (k : ℕ) → k < n → id_at heads k ≢ 2 * id
 
 -- The place of the live clause with this id among the first n, or that there is none.
 abbrev pub FoundIn : List ℕ → ℕ → ℕ → Found → Type 0

@@ -6,8 +6,9 @@
 ghost use Rattle.std.specs.Prelude.{◌≡◌, ◌+◌, ◌-◌, ◌*◌, ◌/◌, ◌%◌, ◌^◌, ◌<◌, ◌≤◌, min, length};
 ghost use Rattle.clauses.specs.Codes.{opposite_code};
 ghost use Rattle.clauses.specs.Counting.{Counts};
-ghost use Rattle.clauses.specs.Store.{id_at, start_at, RoomFor, written, marked};
-ghost use Rattle.clauses.specs.Finding.{Searchable, Peeked, FoundIn, turns_of, Halvings, AtMostHalvings, reached_by};
+ghost use Rattle.std.proofs.Math.Seq.{slice};
+ghost use Rattle.clauses.specs.Store.{id_at, start_at, RoomFor, Placed, written, marked};
+ghost use Rattle.clauses.specs.Finding.{Searchable, Peeked, Peeks, FoundIn, Finds, turns_of, Halvings, AtMostHalvings, reached_by};
 ghost use Rattle.clauses.specs.Moving.{Stored, Moved, Movable, OneMoved, AllMoved};
 
 // A value, and the turns that the loops made for it.
@@ -263,6 +264,73 @@ pub fn lookup(heads: &[u32], n: usize, guess: &[u32], id: u64) -> Found
 {
     let place = peek(heads, n, guessed(guess, id), id);
     lookup_at(heads, n, place, id)
+}
+
+impl<'a> View<'a> {
+    // The literals of the `k`-th clause.
+    #[inline]
+    pub fn clause(self, k: usize) -> &'a [u32]
+        requires { Placed self.heads.now self.lits.now k }
+        ensures { result.now ≡ slice (start_at self.entry.heads.now k) (start_at self.entry.heads.now (k + 1)) self.entry.lits.now }
+    {
+        &self.lits[start_at(self.heads, k)..start_at(self.heads, k + 1)]
+    }
+
+    // The guess for `id`; any place will do. A table of zeros is right as long as no id is left out and no room was
+    // given back.
+    #[inline]
+    pub fn guessed(self, id: u64) -> usize {
+        below(id, noted(self.guess, id))
+    }
+
+    // The place of the live clause `id` if the guess for it is right. This is the first half of a `lookup`, of its own so that a
+    // caller can make it ahead of time, and the memory where the clause's head stands is there once the rest is done.
+    #[inline]
+    pub fn peek(self, place: usize, id: u64) -> Option<usize>
+        requires { RoomFor self.heads.now self.n × (id < 2 ^ 60) }
+        ensures { Peeks self.entry.heads.now self.entry.n id result }
+    {
+        if place < self.n && head_at(self.heads, place) == 2 * id {
+            return Some(place);
+        }
+        None
+    }
+
+    // As `find`, behind a `peek`. A right guess costs no turn.
+    #[inline]
+    pub fn lookup_at(self, peeked: Option<usize>, id: u64) -> Timed<Option<usize>>
+        requires searchable { Searchable self.heads.now self.n id }
+        requires peeked { Peeks self.heads.now self.n id peeked }
+        ensures place { Finds self.entry.heads.now self.entry.n id result.value }
+        ensures turns { AtMostHalvings self.entry.n result.turns }
+    {
+        if let Some(_) = peeked {
+            return Timed {
+                value: peeked,
+                turns: 0,
+            };
+        }
+        match find(self.heads, self.n, id) {
+            Found::At { place, turns } => Timed {
+                value: Some(place),
+                turns: turns,
+            },
+            Found::Nowhere { turns } => Timed {
+                value: None,
+                turns: turns,
+            },
+        }
+    }
+
+    // As `find`, with a guess first, which may be wrong.
+    #[inline]
+    pub fn lookup(self, id: u64) -> Timed<Option<usize>>
+        requires { Searchable self.heads.now self.n id }
+        ensures place { Finds self.entry.heads.now self.entry.n id result.value }
+        ensures turns { AtMostHalvings self.entry.n result.turns }
+    {
+        self.lookup_at(self.peek(self.guessed(id), id), id)
+    }
 }
 
 // The next guess for `id` is `place`, if there is room for a guess. What is right already is not written again, so that memory
