@@ -1,7 +1,7 @@
 -- Reading a clause: what a token does, and the state of a reader between two tokens. Assumes nothing.
 use Rattle.std.proofs.Common.{ℕ, suc, ◌+◌, ◌*◌, ◌≤◌, ◌<◌, ◌≡◌, true, false, List, [], ◌∷◌, ◌++◌, map, leb, length, take, drop, get_or, set}
-use Rattle.std.proofs.Common.{refl, sym, ap, ◌∙◌, append_assoc, append-nil, add-one, arith, le-leb, leb-true, length-append, length-set, take-append-drop, drop-cons, length-take-le}
-use borrow.Author.Tests.{lt-leb}
+use Rattle.std.specs.Prelude.{Option as Maybe, Some, None, Result, Ok, Err}
+use Rattle.std.proofs.Common.{refl, sym, ap, ◌∙◌, append_assoc, append-nil, add-one, arith, leb-true, length-append, length-set, take-append-drop, drop-cons, length-take-le}
 use Rattle.std.proofs.Math.Option.{Option, none, some}
 use Rattle.std.proofs.Math.Seq.{set_at}
 use Rattle.meaning.specs.Meaning.{pos, neg, Clause}
@@ -16,28 +16,15 @@ use Rattle.text.proofs.Tokens.{capped_test, capped_same, scanned_nothing, scanne
 use Rattle.clauses.specs.Codes.{literal_of, code_of}
 use Rattle.clauses.proofs.Literals.{literal_code}
 use Rattle.formula.specs.Body.{item_of, Placed, AllBelow, ClauseDone, ClauseBad, ClauseLong}
-use Rattle.formula.specs.declared.body.Item.{Item}
-use Rattle.formula.specs.declared.body.Item.TheVariants.{Literal as Lit, End, Wrong}
+use Rattle.formula.specs.declared.body.NoLiteral.{NoLiteral}
 
 -- Tokens as items
 
-pub item_large : (m v : ℕ) (t : Found) → (t ≡ Plus v) → m < v → Wrong ≡ item_of m t
-item_large m v t e h = rw (e, item_of, lt-leb v m h)
-
-pub item_large_minus : (m v : ℕ) (t : Found) → (t ≡ Minus v) → m < v → Wrong ≡ item_of m t
-item_large_minus m v t e h = rw (e, item_of, lt-leb v m h)
-
-pub item_plus : (m v x : ℕ) (t : Found) → t ≡ Plus v → v ≤ m → x ≡ 2 * v → Lit x ≡ item_of m t
-item_plus m v x t e h q = rw (e, item_of, le-leb v m h, q)
-
-pub item_minus : (m v x : ℕ) (t : Found) → t ≡ Minus v → v ≤ m → x ≡ 2 * v + 1 → Lit x ≡ item_of m t
-item_minus m v x t e h q = rw (e, item_of, le-leb v m h, q)
-
 -- What an item says of the token that it came from.
-abbrev Told : ℕ → Token → Item → Type 0
-Told m t (Lit x) = (is_nought t ≡ false) × (literal m t ≡ some (literal_of x)) × (x < 2 * m + 2)
-Told m t End = is_nought t ≡ true
-Told m t Wrong = (is_nought t ≡ false) × (literal m t ≡ none)
+abbrev Told : ℕ → Token → Result (Maybe ℕ) NoLiteral → Type 0
+Told m t (Ok (Some x)) = (is_nought t ≡ false) × (literal m t ≡ some (literal_of x)) × (x < 2 * m + 2)
+Told m t (Ok None) = is_nought t ≡ true
+Told m t (Err e) = (is_nought t ≡ false) × (literal m t ≡ none)
 
 told : (m : ℕ) → m < most → (t : Token) → Told m t (item_of m (capped t))
 unfolding literal code_of
@@ -137,25 +124,25 @@ pub map_more : {A : Type 0} (f : ℕ → A) (xs : List ℕ) (x : ℕ) → map f 
 map_more f [] x = refl
 map_more f (y ∷ xs) x = ap (λ (l : List _). f y ∷ l) (map_more f xs x)
 
-none_lit : (x : ℕ) {X : Type 0} → Wrong ≡ Lit x → X
+none_lit : (x : ℕ) {X : Type 0} → ◌≡◌ {A = Result (Maybe ℕ) NoLiteral} (Ok (Some x)) (Err (record {})) → X
 none_lit x e = absurd (let z : ◌≡◌ {A = ℕ} 0 1 = cc in omega arith)
 
 module _ (v : ℕ) (small : v < most) (s : List ℕ) (at : ℕ) (before : List ℕ) (used : ℕ) (lits : List ℕ) (i w : ℕ) (r : Reading v s at before used lits i w)
     (t : Found) (n : ℕ) (scan : Scans i (drop i s) t n) where
   -- What was found is the next token, unless it was nothing.
-  token_told : (x : Item) → x ≡ item_of v t → (next : Next s i t n) → Told v next.tok x
+  token_told : (x : Result (Maybe ℕ) NoLiteral) → x ≡ item_of v t → (next : Next s i t n) → Told v next.tok x
   token_told x e next = rw (e, next.cap) (told v small next.tok)
 
-  found_some : (x : Item) → x ≡ item_of v t → (x ≡ Wrong → ⊥) → Next s i t n
+  found_some : (x : Result (Maybe ℕ) NoLiteral) → x ≡ item_of v t → (x ≡ Err (record {}) → ⊥) → Next s i t n
   found_some x e f = scanned_token s i t n scan (λ q. f (e ∙ rw q))
 
-  pub reading_next : (x : ℕ) → Lit x ≡ item_of v t → Next s i t n
-  reading_next x e = found_some (Lit x) e (λ q. none_lit x (sym q))
+  pub reading_next : (x : ℕ) → Ok (Some x) ≡ item_of v t → Next s i t n
+  reading_next x e = found_some (Ok (Some x)) e (λ q. none_lit x q)
 
-  pub reading_on : (x : ℕ) (lits' : List ℕ) → Lit x ≡ item_of v t → w < length lits → lits' ≡ set lits w x → Reading v s at before used lits' n (w + 1)
+  pub reading_on : (x : ℕ) (lits' : List ℕ) → Ok (Some x) ≡ item_of v t → w < length lits → lits' ≡ set lits w x → Reading v s at before used lits' n (w + 1)
   reading_on x lits' e room put =
       let next = reading_next x e in
-      let say = token_told (Lit x) e next in
+      let say = token_told (Ok (Some x)) e next in
       record {
         new = r.new ++ (x ∷ []);
         placed = rw put (placed_more before r.new lits used w x r.fit r.placed (omega (arith, r.same)));
@@ -170,10 +157,10 @@ module _ (v : ℕ) (small : v < most) (s : List ℕ) (at : ℕ) (before : List �
         within = next.within;
       }
 
-  pub reading_done : End ≡ item_of v t → ClauseDone v s at before used lits n w
+  pub reading_done : Ok None ≡ item_of v t → ClauseDone v s at before used lits n w
   reading_done e =
-      let next = found_some End e (λ q. absurd (let z : ◌≡◌ {A = ℕ} 0 1 = cc in omega arith)) in
-      let say = token_told End e next in
+      let next = found_some (Ok None) e (λ q. absurd (let z : ◌≡◌ {A = ℕ} 0 1 = cc in omega arith)) in
+      let say = token_told (Ok None) e next in
       record {
         new = r.new;
         placed = r.placed;
@@ -190,14 +177,14 @@ module _ (v : ℕ) (small : v < most) (s : List ℕ) (at : ℕ) (before : List �
       let none_left : tokens (drop i s) ≡ [] = scanned_nothing i (drop i s) n (rw e at scan) in
       r.left ∙ rw none_left
 
-  wrong_left : Wrong ≡ item_of v t → (t ≡ Nothing → ⊥) → items (literal v) (tokens (drop at s)) ≡ none
+  wrong_left : Err (record {}) ≡ item_of v t → (t ≡ Nothing → ⊥) → items (literal v) (tokens (drop at s)) ≡ none
   wrong_left e f =
       let next = scanned_token s i t n scan f in
-      let say = token_told Wrong e next in
+      let say = token_told (Err (record {})) e next in
       r.left ∙ ap (λ (ts : List Token). ahead (map literal_of r.new) (items (literal v) ts)) next.is
       ∙ ahead_bad (literal v) next.tok (tokens (drop n s)) (map literal_of r.new) say.0 say.1
 
-  no_clause : (u : Found) → t ≡ u → Wrong ≡ item_of v t → items (literal v) (tokens (drop at s)) ≡ none
+  no_clause : (u : Found) → t ≡ u → Err (record {}) ≡ item_of v t → items (literal v) (tokens (drop at s)) ≡ none
   no_clause Nought q e = wrong_left e (λ p. absurd (let z : ◌≡◌ {A = ℕ} 0 1 = cc in omega arith))
   no_clause (Plus k) q e = wrong_left e (λ p. absurd (let z : ◌≡◌ {A = ℕ} 0 1 = cc in omega arith))
   no_clause (Minus k) q e = wrong_left e (λ p. absurd (let z : ◌≡◌ {A = ℕ} 0 1 = cc in omega arith))
@@ -205,10 +192,10 @@ module _ (v : ℕ) (small : v < most) (s : List ℕ) (at : ℕ) (before : List �
   no_clause Other q e = wrong_left e (λ p. absurd (let z : ◌≡◌ {A = ℕ} 0 1 = cc in omega arith))
   no_clause Nothing q e = nothing_left q
 
-  pub reading_bad : Wrong ≡ item_of v t → ClauseBad v s at before used lits i w
+  pub reading_bad : Err (record {}) ≡ item_of v t → ClauseBad v s at before used lits i w
   reading_bad e = record { new = r.new; placed = r.placed; is = no_clause t refl e; few = omega (arith, r.few); later = r.later; within = r.within }
 
-  pub reading-long : (x : ℕ) → Lit x ≡ item_of v t → length lits ≤ w → ClauseLong v s at before used lits i w
+  pub reading-long : (x : ℕ) → Ok (Some x) ≡ item_of v t → length lits ≤ w → ClauseLong v s at before used lits i w
   reading-long x e full =
       let next = reading_next x e in
       record {

@@ -1,5 +1,5 @@
 -- What the functions of src/body.rt read, in terms of document 01's definitions (rules' Text and Formula).
-use Rattle.std.specs.Prelude.{ℕ, ◌+◌, ◌*◌, ◌<◌, ◌≤◌, max, ◌≡◌, ◌⊎◌, Bool, true, false, List, [], ◌∷◌, ◌++◌, map, leb, length, get_or, take, drop}
+use Rattle.std.specs.Prelude.{ℕ, ◌+◌, ◌*◌, ◌<◌, ◌≤◌, max, ◌≡◌, ◌⊎◌, Bool, true, false, List, [], ◌∷◌, ◌++◌, map, leb, length, get_or, take, drop, Option, Some, None, Result, Ok, Err}
 use Rattle.std.proofs.Math.Option.{none, some}
 use Rattle.meaning.specs.Meaning.{Clause}
 use Rattle.rules.specs.Text.{tokens, literal}
@@ -9,21 +9,20 @@ use Rattle.text.specs.declared.Token.{Token}
 use Rattle.text.specs.declared.Token.TheVariants.{Nought, Plus, Minus, LetterD, Other, Nothing}
 use Rattle.clauses.specs.Codes.{literal_of}
 use Rattle.clauses.specs.Store.{RoomFor, written, Holds}
-use Rattle.formula.specs.declared.body.Item.{Item}
-use Rattle.formula.specs.declared.body.Item.TheVariants.{Literal, End, Wrong}
+use Rattle.formula.specs.declared.body.NoLiteral.{NoLiteral}
 use Rattle.formula.specs.declared.body.ClauseRead.{ClauseRead}
 use Rattle.formula.specs.declared.body.ClauseRead.TheVariants.{Done, Unreadable, TooShort}
 use Rattle.formula.specs.declared.body.BodyRead.{BodyRead}
 use Rattle.formula.specs.declared.body.BodyRead.TheVariants.{Done as AllDone, Unreadable as AllUnreadable, TooShort as AllTooShort}
 
--- What a token says in a clause over variables up to m.
-abbrev pub item_of : ℕ → Token → Item
-item_of m Nought = End
-item_of m (Plus v) = elim (leb v m) [ true ↦ Literal (2 * v) | false ↦ Wrong ]
-item_of m (Minus v) = elim (leb v m) [ true ↦ Literal (2 * v + 1) | false ↦ Wrong ]
-item_of m LetterD = Wrong
-item_of m Other = Wrong
-item_of m Nothing = Wrong
+-- What a token says in a clause over variables up to m: the code of a literal, or nothing for the 0 at the end.
+abbrev pub item_of : ℕ → Token → Result (Option ℕ) NoLiteral
+item_of m Nought = Ok None
+item_of m (Plus v) = elim (leb v m) [ true ↦ Ok (Some (2 * v)) | false ↦ Err (record {}) ]
+item_of m (Minus v) = elim (leb v m) [ true ↦ Ok (Some (2 * v + 1)) | false ↦ Err (record {}) ]
+item_of m LetterD = Err (record {})
+item_of m Other = Err (record {})
+item_of m Nothing = Err (record {})
 
 -- The numbers `new` stand in `after` from `used` up to `end`, and everything else is as it was before.
 pub record Placed (before : List ℕ) (used : ℕ) (new after : List ℕ) (end : ℕ) : Type 0 where

@@ -9,36 +9,21 @@ ghost use Rattle.formula.specs.Body.{item_of, ReadsClause, Closes, ReadsBody, gr
 
 use text::Token;
 
-// One token of a clause: a literal by its code, the 0 at its end, or neither.
-#[derive(Clone, Copy)]
-pub enum Item {
-    Literal(u32),
-    End,
-    Wrong,
-}
+// What is said of a token that is neither a literal nor the 0 behind the last one.
+#[derive(Clone, Copy, PartialEq, Eq)]
+pub struct NoLiteral;
 
-// What a token says in a clause over variables up to `vars`. Hints and ids of a proof have codes of the same kind.
-pub fn item_of(t: Token, vars: u64) -> Item
+// What a token says in a clause over variables up to `vars`: the code of a literal, or `None` for the 0 at the end. Hints and
+// ids of a proof have codes of the same kind.
+pub fn item_of(t: Token, vars: u64) -> Result<Option<u32>, NoLiteral>
     requires { vars < 2 ^ 31 }
     ensures { result ≡ item_of vars t }
 {
     match t {
-        Token::Nought => Item::End,
-        Token::Plus(v) => {
-            if vars < v {
-                return Item::Wrong;
-            }
-            Item::Literal(clauses::narrow(2 * v))
-        }
-        Token::Minus(v) => {
-            if vars < v {
-                return Item::Wrong;
-            }
-            Item::Literal(clauses::narrow(2 * v + 1))
-        }
-        Token::LetterD => Item::Wrong,
-        Token::Other => Item::Wrong,
-        Token::Nothing => Item::Wrong,
+        Token::Nought => Ok(None),
+        Token::Plus(v) if v <= vars => Ok(Some((2 * v) as u32)),
+        Token::Minus(v) if v <= vars => Ok(Some((2 * v + 1) as u32)),
+        _ => Err(NoLiteral),
     }
 }
 
@@ -71,19 +56,18 @@ pub fn read_clause(s: &[u8], at: usize, vars: u64, lits: &mut [u32], used: usize
         let r = text::token_at(s, i);
         let next = r.next;
         let t = r.token;
-        let x = item_of(t, vars);
-        match x {
-            Item::Literal(l) => {
+        match item_of(t, vars) {
+            Ok(Some(l)) => {
                 if lits.len() <= w {
                     return ClauseRead::TooShort { next: i, end: w };
                 }
                 push(lits, w, l);
                 i = next;
             }
-            Item::End => {
+            Ok(None) => {
                 return ClauseRead::Done { next: next, end: w };
             }
-            Item::Wrong => {
+            Err(_) => {
                 return ClauseRead::Unreadable { next: i, end: w };
             }
         }

@@ -20,6 +20,13 @@ use opening::Header;
 use text::Token;
 use writer::Fit;
 
+// Why reading stopped: what stands in the text is not readable, or one of the parts of the store is too short for it.
+#[derive(Clone, Copy, PartialEq, Eq)]
+pub enum Fault {
+    Unreadable,
+    TooShort,
+}
+
 // What reading a formula came to. `Stored`: V, the number of clauses, how many literals they have, and the greatest variable
 // that occurs. Otherwise: the place in the text where it stopped, and what had been stored by then.
 #[derive(Clone, Copy)]
