@@ -1,6 +1,6 @@
 -- Laws of moving clauses down. Assumes nothing.
-use Rattle.std.proofs.Common.{◌≡◌, ℕ, ◌+◌, ◌-◌, ◌*◌, ◌/◌, ◌%◌, ◌^◌, ◌<◌, ◌≤◌, eqb, ◌⊎◌, List, [], ◌∷◌, ◌++◌, map, length, get_or, take, set}
-use Rattle.std.proofs.Common.{sym, refl, ap, ◌∙◌, ⊎_elim, append-nil, arith, length-set, length-take-le, get_or-drop, get_or-set_other, get_or-take, get_or-set_same, ext_get_or, eqb-true}
+use Rattle.std.proofs.Common.{◌≡◌, ℕ, ◌+◌, ◌-◌, ◌*◌, ◌/◌, ◌%◌, ◌^◌, ◌<◌, ◌≤◌, eqb, ◌⊎◌, List, [], ◌∷◌, ◌++◌, map, length, get_or, take}
+use Rattle.std.proofs.Common.{sym, refl, ap, ◌∙◌, ⊎_elim, append-nil, arith, length-take-le, get_or-drop, get_or-take, ext_get_or, eqb-true}
 use borrow.Author.Tests.{eqb-false}
 use Rattle.std.proofs.Math.Seq.{slice, length-slice}
 use Rattle.meaning.proofs.Truth.{bool_cases}
@@ -12,67 +12,6 @@ use Rattle.clauses.proofs.Entries.{clause_is, entry_live, entry_deleted, live_mo
 use Rattle.clauses.proofs.Numbers.{cut}
 use Rattle.clauses.proofs.Heads.{written-long, written-ids, written_starts, written_id, written_end}
 use Rattle.clauses.proofs.Holding.{holds_empty, holds_literals, holds_more}
-
--- The literals from `from` up to `i` are moved.
-pub record Shifting (before : List ℕ) (from end to : ℕ) (after : List ℕ) (i w turns : ℕ) : Type 0 where
-  pub began : from ≤ i
-  pub within : i ≤ end
-  pub behind_it : w ≤ i
-  pub level : w + from ≡ to + i
-  pub counted : turns + from ≡ i
-  pub long : length after ≡ length before
-  pub front : (j : ℕ) → j < to → get_or after j 0 ≡ get_or before j 0
-  pub moved : (j : ℕ) → from + j < i → get_or after (to + j) 0 ≡ get_or before (from + j) 0
-  pub rest : (j : ℕ) → i ≤ j → get_or after j 0 ≡ get_or before j 0
-
-pub shifting_start : (before : List ℕ) (from end to : ℕ) → to ≤ from → from ≤ end → Shifting before from end to before from to 0
-shifting_start before from end to h l = record {
-  began = omega arith;
-  within = l;
-  behind_it = h;
-  level = omega arith;
-  counted = omega arith;
-  long = refl;
-  front = λ j m. refl;
-  moved = λ j m. absurd (omega arith);
-  rest = λ j m. refl;
-}
-
-module _ (before : List ℕ) (from end to : ℕ) (after : List ℕ) (i w turns : ℕ) (s : Shifting before from end to after i w turns)
-    (more : i < end) (inside : end ≤ length before) (literal : ℕ) (is_literal : literal ≡ get_or after i 0) where
-  other : (j : ℕ) → (j ≡ w → ⊥) → get_or (set after w literal) j 0 ≡ get_or after j 0
-  other j d = get_or-set_other after w j literal 0 d
-
-  here : get_or (set after w literal) w 0 ≡ get_or before i 0
-  here = get_or-set_same after w literal 0 (omega (arith, s.long, s.behind_it)) ∙ (is_literal ∙ s.rest i (omega arith))
-
-  at_last : (j : ℕ) → from + j ≡ i → get_or (set after w literal) (to + j) 0 ≡ get_or before (from + j) 0
-  at_last j e =
-      let z : to + j ≡ w = omega (arith, s.level) in
-      rw (z, e) here
-
-  pub shifting_on : Shifting before from end to (set after w literal) (i + 1) (w + 1) (turns + 1)
-  shifting_on = record {
-    began = omega (arith, s.began);
-    within = omega arith;
-    behind_it = omega (arith, s.behind_it);
-    level = omega (arith, s.level);
-    counted = omega (arith, s.counted);
-    long = length-set after w literal ∙ s.long;
-    front = λ j m. other j (λ e. omega (arith, s.level, s.began)) ∙ s.front j m;
-    moved = λ j m.
-        ⊎_elim
-        (λ lt. other (to + j) (λ e. omega (arith, s.level)) ∙ s.moved j lt)
-        (λ ge. at_last j (omega arith))
-        (cut (from + j) i);
-    rest = λ j m. other j (λ e. omega (arith, s.behind_it)) ∙ s.rest j (omega arith);
-  }
-
-pub shifting_end : (before : List ℕ) (from end to : ℕ) (after : List ℕ) (i w turns : ℕ) → Shifting before from end to after i w turns → end ≤ i
-    → Moved before from end to after × (turns ≡ end - from)
-shifting_end before from end to after i w turns s h =
-    let z : i ≡ end = omega (arith, s.within) in
-    (record { long = s.long; front = s.front; moved = λ j m. s.moved j (omega arith); behind = λ j m. s.rest j (omega arith) }, omega (arith, s.counted))
 
 -- The same elements are the same part.
 parts_same : (xs ys : List ℕ) (a e b f : ℕ) → e ≤ length xs → f ≤ length ys → e - a ≡ f - b
@@ -100,13 +39,12 @@ fronts_same xs ys n h l each =
 
 -- The first k clauses are moved: m of them stay, with w literals. What is behind them is as it was; and the m clauses are a
 -- store that holds the live ones of the first k.
-pub record Compacting (heads₀ lits₀ : List ℕ) (n : ℕ) (heads lits : List ℕ) (k m w moves turns : ℕ) : Type 0 where
+pub record Compacting (heads₀ lits₀ : List ℕ) (n : ℕ) (heads lits : List ℕ) (k m w moves : ℕ) : Type 0 where
   pub within : k ≤ n
   pub kept : m ≤ k
   pub down : w ≤ start_at heads₀ k
   pub level : m ≡ k → w ≡ start_at heads₀ k
   pub moves_counted : moves ≡ w
-  pub turns_counted : turns ≡ k
   pub heads_long : length heads ≡ length heads₀
   pub lits_long : length lits ≡ length lits₀
   pub ids_rest : (i : ℕ) → k ≤ i → id_at heads i ≡ id_at heads₀ i
@@ -117,14 +55,13 @@ pub record Compacting (heads₀ lits₀ : List ℕ) (n : ℕ) (heads lits : List
   pub larger : (i j : ℕ) → i < m → k ≤ j → j < n → id_at heads i / 2 < id_at heads₀ j / 2
   pub holds : (used last : ℕ) → Store heads₀ lits₀ n used last → Holds heads lits m w last (live_of heads₀ lits₀ k)
 
-pub compacting_start : (heads lits : List ℕ) (n used last : ℕ) → Store heads lits n used last → Compacting heads lits n heads lits 0 0 0 0 0
+pub compacting_start : (heads lits : List ℕ) (n used last : ℕ) → Store heads lits n used last → Compacting heads lits n heads lits 0 0 0 0
 compacting_start heads lits n used last s = record {
   within = omega arith;
   kept = omega arith;
   down = omega arith;
   level = λ e. sym s.begins;
   moves_counted = refl;
-  turns_counted = refl;
   heads_long = refl;
   lits_long = refl;
   ids_rest = λ i h. refl;
@@ -136,8 +73,8 @@ compacting_start heads lits n used last s = record {
   holds = λ used last t. rw (live-none heads lits) (holds_empty heads lits last (omega (arith, t.room)) t.begins);
 }
 
-module _ (heads₀ lits₀ : List ℕ) (n used₀ last₀ : ℕ) (s : Store heads₀ lits₀ n used₀ last₀) (heads lits : List ℕ) (k m w moves turns : ℕ)
-    (c : Compacting heads₀ lits₀ n heads lits k m w moves turns) (more : k < n) where
+module _ (heads₀ lits₀ : List ℕ) (n used₀ last₀ : ℕ) (s : Store heads₀ lits₀ n used₀ last₀) (heads lits : List ℕ) (k m w moves : ℕ)
+    (c : Compacting heads₀ lits₀ n heads lits k m w moves) (more : k < n) where
   id_there : id_at heads k ≡ id_at heads₀ k
   id_there = c.ids_rest k (omega arith)
 
@@ -164,14 +101,13 @@ module _ (heads₀ lits₀ : List ℕ) (n used₀ last₀ : ℕ) (s : Store head
   }
 
   -- A deleted clause is passed by.
-  pub compacting_drop : (id_at heads k % 2 ≡ 0 → ⊥) → Compacting heads₀ lits₀ n heads lits (k + 1) m w moves (turns + 1)
+  pub compacting_drop : (id_at heads k % 2 ≡ 0 → ⊥) → Compacting heads₀ lits₀ n heads lits (k + 1) m w moves
   compacting_drop deleted = record {
     within = omega arith;
     kept = omega (arith, c.kept);
     down = omega (arith, c.down, forward);
     level = λ e. absurd (omega (arith, c.kept));
     moves_counted = c.moves_counted;
-    turns_counted = omega (arith, c.turns_counted);
     heads_long = c.heads_long;
     lits_long = c.lits_long;
     ids_rest = λ i h. c.ids_rest i (omega arith);
@@ -287,7 +223,7 @@ module _ (heads₀ lits₀ : List ℕ) (n used₀ last₀ : ℕ) (s : Store head
             rw here (f (start_at heads₀ k + j) (omega (arith, size_is)))
 
     pub compacting_keep : Compacting heads₀ lits₀ n (written heads m (id_at heads k) (w + (start_at heads (k + 1) - start_at heads k))) lits' (k + 1) (m + 1) (w + (start_at heads (k + 1) - start_at heads k))
-        (moves + (start_at heads (k + 1) - start_at heads k)) (turns + 1)
+        (moves + (start_at heads (k + 1) - start_at heads k))
     unfolding after size
     compacting_keep = record {
       within = omega arith;
@@ -295,7 +231,6 @@ module _ (heads₀ lits₀ : List ℕ) (n used₀ last₀ : ℕ) (s : Store head
       down = omega (arith, c.down, forward, size_is);
       level = λ e. omega (arith, c.level (omega arith), forward, size_is);
       moves_counted = ap (λ (x : ℕ). x + size) c.moves_counted;
-      turns_counted = omega (arith, c.turns_counted);
       heads_long = written-long heads m (id_at heads k) (w + size) ∙ c.heads_long;
       lits_long = moved.long ∙ c.lits_long;
       ids_rest = rest_ids;
@@ -307,54 +242,40 @@ module _ (heads₀ lits₀ : List ℕ) (n used₀ last₀ : ℕ) (s : Store head
       holds = holds_on;
     }
 
--- One clause, by what was read and written.
-pub kept_by : (heads lits : List ℕ) (k n used turns from end moved : ℕ) (heads' lits' : List ℕ) → id_at heads k % 2 ≡ 0
-    → from ≡ start_at heads k → end ≡ start_at heads (k + 1) → Moved lits from end used lits' × (moved ≡ end - from)
-    → heads' ≡ written heads n (id_at heads k) (used + (end - from))
-    → Kept heads lits k n used turns heads' lits' (n + 1) (used + (end - from)) (turns + moved)
-kept_by heads lits k n used turns from end moved heads' lits' live f e m w = record {
-  is_live = live;
-  next = refl;
-  end = rw (f, e);
-  counted = rw (m.1, f, e);
-  head = w;
-  literals = rw (f, e) at m.0;
-}
-
 -- One clause, in the course of the whole.
 pub compacting_on : (heads₀ lits₀ : List ℕ) (n used₀ last₀ : ℕ) → Store heads₀ lits₀ n used₀ last₀
-    → (heads lits : List ℕ) (k m w moves turns : ℕ) → Compacting heads₀ lits₀ n heads lits k m w moves turns → k < n
+    → (heads lits : List ℕ) (k m w moves : ℕ) → Compacting heads₀ lits₀ n heads lits k m w moves → k < n
     → (heads' lits' : List ℕ) (m' w' moves' : ℕ)
     → Kept heads lits k m w moves heads' lits' m' w' moves' ⊎ Dropped heads lits k m w moves heads' lits' m' w' moves'
-    → Compacting heads₀ lits₀ n heads' lits' (k + 1) m' w' moves' (turns + 1)
-compacting_on heads₀ lits₀ n used₀ last₀ s heads lits k m w moves turns c more heads' lits' m' w' moves' one =
+    → Compacting heads₀ lits₀ n heads' lits' (k + 1) m' w' moves'
+compacting_on heads₀ lits₀ n used₀ last₀ s heads lits k m w moves c more heads' lits' m' w' moves' one =
     ⊎_elim
     (λ (x : Kept heads lits k m w moves heads' lits' m' w' moves').
     rw (x.head, x.next, x.end, x.counted)
-    (compacting_keep heads₀ lits₀ n used₀ last₀ s heads lits k m w moves turns c more x.is_live lits' x.literals))
+    (compacting_keep heads₀ lits₀ n used₀ last₀ s heads lits k m w moves c more x.is_live lits' x.literals))
     (λ (x : Dropped heads lits k m w moves heads' lits' m' w' moves').
     rw (x.head, x.literals, x.next, x.end, x.counted)
-    (compacting_drop heads₀ lits₀ n used₀ last₀ s heads lits k m w moves turns c more x.is_deleted))
+    (compacting_drop heads₀ lits₀ n used₀ last₀ s heads lits k m w moves c more x.is_deleted))
     one
 
 -- The count fits, since no slice is that long.
 pub compacting_small : (heads₀ lits₀ : List ℕ) (n used₀ last₀ : ℕ) → Store heads₀ lits₀ n used₀ last₀
-    → (heads lits : List ℕ) (k m w moves turns : ℕ) → Compacting heads₀ lits₀ n heads lits k m w moves turns
-    → length heads₀ * 4 < 2 ^ 63 → length lits₀ * 4 < 2 ^ 63 → moves + turns < 2 ^ 64
-compacting_small heads₀ lits₀ n used₀ last₀ s heads lits k m w moves turns c a b =
+    → (heads lits : List ℕ) (k m w moves : ℕ) → Compacting heads₀ lits₀ n heads lits k m w moves
+    → length heads₀ * 4 < 2 ^ 63 → length lits₀ * 4 < 2 ^ 63 → moves + n < 2 ^ 64
+compacting_small heads₀ lits₀ n used₀ last₀ s heads lits k m w moves c a b =
     omega (arith, start-below heads₀ lits₀ n used₀ last₀ s k c.within, s.fits, s.room)
 
 -- All clauses.
-pub compacting_end : (heads₀ lits₀ : List ℕ) (n : ℕ) (heads lits : List ℕ) (k m w moves turns : ℕ)
-    → Compacting heads₀ lits₀ n heads lits k m w moves turns → n ≤ k
-    → AllMoved heads₀ lits₀ n heads lits (record { n = m; used = w; turns = moves + turns })
-compacting_end heads₀ lits₀ n heads lits k m w moves turns c h = record {
+pub compacting_end : (heads₀ lits₀ : List ℕ) (n : ℕ) (heads lits : List ℕ) (k m w moves : ℕ)
+    → Compacting heads₀ lits₀ n heads lits k m w moves → n ≤ k
+    → AllMoved heads₀ lits₀ n heads lits (record { n = m; used = w; turns = moves + n })
+compacting_end heads₀ lits₀ n heads lits k m w moves c h = record {
   holds = λ used last live t. rw (sym t.same, sym all) (c.holds used last t.store);
   all_live = c.all_live;
   fewer = omega (arith, c.kept, c.within);
   shorter = rw all at c.down;
   below = λ b f. c.bounds b (λ i h. f i (rw all at h));
-  counted = omega (arith, c.moves_counted, c.turns_counted);
+  counted = omega (arith, c.moves_counted);
   heads_long = c.heads_long;
   lits_long = c.lits_long;
 }

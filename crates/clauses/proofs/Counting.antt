@@ -1,16 +1,6 @@
 -- Laws of counting turns: what is counted together reaches what the parts reach.
-use Rattle.std.proofs.Common.{◌≡◌, ℕ, ◌+◌, ◌≤◌, inl, inr, ⊎_elim, arith}
-use Rattle.clauses.specs.Counting.{full, Reaches, Counts}
-
--- The sum fits.
-pub plus_fits : (x y r : ℕ) → r ≡ x + y → Counts x y r
-plus_fits x y r e =
-    record { at_most = omega arith; at_least = record { case = inl (omega arith) }; first = omega arith; second = omega arith }
-
--- It does not, and the counter is full.
-pub plus-full : (x y r : ℕ) → x ≤ full → y ≤ full → full ≤ x + y → r ≡ full → Counts x y r
-plus-full x y r fx fy f e =
-    record { at_most = omega arith; at_least = record { case = inr (omega arith) }; first = omega arith; second = omega arith }
+use Rattle.std.proofs.Common.{ℕ, ◌+◌, ◌≤◌, inl, inr, ⊎_elim, arith}
+use Rattle.clauses.specs.Counting.{Reaches, Counts}
 
 -- What is exactly so is at least so.
 pub reaches_same : (x : ℕ) → Reaches x x

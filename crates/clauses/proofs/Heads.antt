@@ -10,17 +10,6 @@ start_is heads k low high p q = rw (p, q)
 start_same : (heads heads' : List ℕ) (k : ℕ) → get_or heads' (3 * k + 1) 0 ≡ get_or heads (3 * k + 1) 0 → get_or heads' (3 * k + 2) 0 ≡ get_or heads (3 * k + 2) 0 → start_at heads' k ≡ start_at heads k
 start_same heads heads' k p q = start_is heads' k (get_or heads (3 * k + 1) 0) (get_or heads (3 * k + 2) 0) p q ∙ sym (start_is heads k (get_or heads (3 * k + 1) 0) (get_or heads (3 * k + 2) 0) refl refl)
 
--- What is read there.
-pub start_by : (heads : List ℕ) (k low high r : ℕ) → low ≡ get_or heads (3 * k + 1) 0 → high ≡ get_or heads (3 * k + 2) 0 → r ≡ low + 4294967296 * high → r ≡ start_at heads k
-start_by heads k low high r p q e = e ∙ sym (start_is heads k low high (sym p) (sym q))
-
--- No clause.
-pub start_none : (heads : List ℕ) → RoomFor heads 0 → start_at (set (set heads 1 0) 2 0) 0 ≡ 0
-start_none heads room =
-    start_is (set (set heads 1 0) 2 0) 0 0 0
-    (get_or-set_other (set heads 1 0) 2 1 0 0 (λ e. omega arith) ∙ get_or-set_same heads 1 0 0 (omega arith))
-    (get_or-set_same (set heads 1 0) 2 0 0 (rw length-set (omega arith)))
-
 -- One clause more.
 module _ (heads : List ℕ) (n head end : ℕ) where
   pub written-long : length (written heads n head end) ≡ length heads

@@ -1,8 +1,8 @@
 -- Laws of the search by halving: where the id can still be, and how many turns were taken. Assumes nothing.
-use Rattle.std.proofs.Common.{◌≡◌, ℕ, ◌+◌, ◌-◌, ◌*◌, ◌/◌, ◌^◌, ◌<◌, ◌≤◌, List, sym, refl, ap, ◌∙◌, inl, inr, ⊎_elim, mul_assoc, mul-le-mul_left, arith, pow-add, le-leb}
+use Rattle.std.proofs.Common.{◌≡◌, ℕ, ◌+◌, ◌-◌, ◌*◌, ◌/◌, ◌^◌, ◌<◌, ◌≤◌, List, sym, ap, ◌∙◌, ⊎_elim, mul_assoc, mul-le-mul_left, arith, pow-add, le-leb}
 use borrow.Author.Tests.{lt-leb}
 use Rattle.clauses.specs.Store.{id_at}
-use Rattle.clauses.specs.Finding.{Rising, Halvings, AtMostHalvings, reached_by}
+use Rattle.clauses.specs.Finding.{Rising, reached_by}
 use Rattle.clauses.proofs.Numbers.{cut}
 
 pub reached_yes : (id x : ℕ) → x / 2 ≤ id → reached_by id x ≡ 1
@@ -39,17 +39,6 @@ pub record Halving (n span turns : ℕ) : Type 0 where
   pub few : 2 ^ turns * (span - 1) < n
   pub fewer : 2 ^ turns < 2 * n
 
-pub bracket_start : (heads : List ℕ) (n id : ℕ) → (n ≡ 0 → ⊥) → Bracket heads n id 0 n
-bracket_start heads n id d = record {
-  some = omega arith;
-  within = omega arith;
-  lower = λ k l e. omega arith;
-  upper = λ k l e. omega arith;
-}
-
-pub halving_start : (n : ℕ) → (n ≡ 0 → ⊥) → Halving n n 0
-halving_start n d = record { short = omega arith; enough = omega arith; few = omega arith; fewer = omega arith }
-
 module _ (heads : List ℕ) (n id base span : ℕ) (rises : Rising heads n) (b : Bracket heads n id base span) (more : 1 < span) where
   bracket_up : id_at heads (base + span / 2) / 2 ≤ id → Bracket heads n id (base + span / 2) (span - span / 2)
   bracket_up h = record {
@@ -78,14 +67,6 @@ module _ (heads : List ℕ) (n id base span : ℕ) (rises : Rising heads n) (b :
       (λ yes. let z : base + span / 2 * 1 ≡ base + span / 2 = omega arith in rw (reached_yes id (id_at heads (base + span / 2)) yes, z) (bracket_up yes))
       (cut id (id_at heads (base + span / 2) / 2))
 
--- At one place the id is there or nowhere.
-pub bracket_none : (heads : List ℕ) (n id base span : ℕ) → Bracket heads n id base span → span ≤ 1 → (id_at heads base ≡ 2 * id → ⊥)
-    → (k : ℕ) → k < n → id_at heads k ≡ 2 * id → ⊥
-bracket_none heads n id base span b one d k l e =
-    let half : id_at heads k / 2 ≡ id = omega arith in
-    let z : base ≡ k = omega (arith, b.upper k l half, b.lower k l half) in
-    d (ap (id_at heads) z ∙ e)
-
 module _ (n span turns turns' : ℕ) (h : Halving n span turns) (more : 1 < span) (one : turns' ≡ turns + 1) where
   twice : 2 ^ turns' ≡ 2 ^ turns * 2
   twice = ap (λ (x : ℕ). 2 ^ x) one ∙ pow-add 2 turns 1
@@ -97,16 +78,3 @@ module _ (n span turns turns' : ℕ) (h : Halving n span turns) (more : 1 < span
     few = rw (twice, mul_assoc) (omega (arith, h.few, mul-le-mul_left {m = 2 * (span - span / 2 - 1)} {n = span - 1} (2 ^ turns) (omega arith)));
     fewer = rw twice (omega (arith, h.few, mul-le-mul_left {m = 1} {n = span - 1} (2 ^ turns) (omega arith)));
   }
-
-pub halving_end : (n span turns : ℕ) → Halving n span turns → 0 < span → span ≤ 1 → Halvings n turns
-halving_end n span turns h some one =
-    let z : span ≡ 1 = omega arith in
-    record { none = λ e. absurd (omega (arith, h.short)); enough = λ p. omega (arith, rw z at h.enough); few = λ p. h.fewer }
-
--- The halvings of nothing.
-pub halvings_none : (n : ℕ) → n ≡ 0 → Halvings n 0
-halvings_none n e = record { none = λ q. refl; enough = λ p. absurd (omega arith); few = λ p. absurd (omega arith) }
-
--- Exactly so often is at most so often.
-pub at_most : (n turns : ℕ) → Halvings n turns → AtMostHalvings n turns
-at_most n turns h = ⊎_elim (λ some. inl (h.few some)) (λ none. inr (h.none (omega arith))) (cut 0 n)

@@ -1,8 +1,6 @@
 -- What a search for an id comes to, and how many turns it takes.
 use Rattle.std.specs.Prelude.{◌≡◌, ℕ, ◌*◌, ◌/◌, ◌^◌, ◌<◌, ◌≤◌, true, false, ◌⊎◌, List, ◌≢◌, nat_le, Option, Some, None, ⊤}
 use Rattle.clauses.specs.Store.{id_at, RoomFor}
-use Rattle.clauses.specs.declared.Found.{Found}
-use Rattle.clauses.specs.declared.Found.TheVariants.{At, Nowhere}
 
 -- The ids of the first n clauses rise, deleted or not.
 abbrev pub Rising : List ℕ → ℕ → Type 0
@@ -14,12 +12,7 @@ pub record Searchable (heads : List ℕ) (n id : ℕ) : Type 0 where
   pub rising : Rising heads n
   pub small : id < 2 ^ 60
 
--- Where a peek for `id` came to: the place of the live clause with this id among the first n, or n, which says nothing.
-pub record Peeked (heads : List ℕ) (n id place : ℕ) : Type 0 where
-  pub within : place ≤ n
-  pub has : place < n → id_at heads place ≡ 2 * id
-
--- The same of a peek that answers a place or none: none says nothing.
+-- What a peek for `id` came to: the place of the live clause with this id among the first n, or none, which says nothing.
 abbrev pub Peeks : List ℕ → ℕ → ℕ → Option ℕ → Type 0
 Peeks heads n id (Some place) = (place < n) × (id_at heads place ≡ 2 * id)
 Peeks heads n id None = ⊤
@@ -28,16 +21,6 @@ Peeks heads n id None = ⊤
 abbrev pub Finds : List ℕ → ℕ → ℕ → Option ℕ → Type 0
 Finds heads n id (Some place) = (place < n) × (id_at heads place ≡ 2 * id)
 Finds heads n id None = (k : ℕ) → k < n → id_at heads k ≢ 2 * id
-
--- The place of the live clause with this id among the first n, or that there is none.
-abbrev pub FoundIn : List ℕ → ℕ → ℕ → Found → Type 0
-FoundIn heads n id (At place turns) = (place < n) × (id_at heads place ≡ 2 * id)
-FoundIn heads n id (Nowhere turns) = (k : ℕ) → k < n → id_at heads k ≢ 2 * id
-
--- The turns that the search took.
-abbrev pub turns_of : Found → ℕ
-turns_of (At place turns) = turns
-turns_of (Nowhere turns) = turns
 
 -- Exactly as often as n can be halved, rounding up, until 1 is left.
 pub record Halvings (n turns : ℕ) : Type 0 where

@@ -3,13 +3,13 @@
 // slices that hold no store; that what a function leaves is a store again is said by laws in proofs/, not by its contract.
 #![tactic(auto)]
 
-ghost use Rattle.std.specs.Prelude.{◌≡◌, ◌+◌, ◌-◌, ◌*◌, ◌/◌, ◌%◌, ◌^◌, ◌<◌, ◌≤◌, min, length};
+ghost use Rattle.std.specs.Prelude.{◌≡◌, ◌+◌, ◌-◌, ◌*◌, ◌/◌, ◌%◌, ◌^◌, ◌<◌, ◌≤◌, min, length, IfSome};
 ghost use Rattle.clauses.specs.Codes.{opposite_code};
 ghost use Rattle.clauses.specs.Counting.{Counts};
 ghost use Rattle.std.proofs.Math.Seq.{slice};
 ghost use Rattle.clauses.specs.Store.{id_at, start_at, RoomFor, Placed, written, marked};
-ghost use Rattle.clauses.specs.Finding.{Searchable, Peeked, Peeks, FoundIn, Finds, turns_of, Halvings, AtMostHalvings, reached_by};
-ghost use Rattle.clauses.specs.Moving.{Stored, Moved, Movable, OneMoved, AllMoved};
+ghost use Rattle.clauses.specs.Finding.{Searchable, Peeks, Finds, Halvings, AtMostHalvings, reached_by};
+ghost use Rattle.clauses.specs.Moving.{Stored, Movable, OneMoved, AllMoved};
 
 // A value, and the turns that the loops made for it.
 #[derive(Clone, Copy)]
@@ -25,13 +25,6 @@ pub struct View<'a> {
     pub lits: &'a [u32],
     pub guess: &'a [u32],
     pub n: usize,
-}
-
-// The place of a live clause, or that there is none; and the turns that the search took.
-#[derive(Clone, Copy)]
-pub enum Found {
-    At { place: usize, turns: u64 },
-    Nowhere { turns: u64 },
 }
 
 // How many clauses and literals there are after the deleted ones went, and the turns that this took.
@@ -60,7 +53,7 @@ pub fn cell(x: u32) -> usize
 pub fn half(x: u32) -> u64
     ensures { (result ≡ x / 2) × (result < 2 ^ 60) }
 {
-    (x / 2) as u64
+    u64::from(x / 2)
 }
 
 // An index, as a number of 64 bits.
@@ -86,14 +79,11 @@ pub fn narrow(x: u64) -> u32
 }
 
 // Turns and more turns, up to the greatest count.
+#[inline]
 pub fn plus(turns: u64, more: u64) -> u64
     ensures { Counts turns more result }
 {
-    let room = 18446744073709551615 - turns;
-    if room < more {
-        return 18446744073709551615;
-    }
-    turns + more
+    turns.saturating_add(more)
 }
 
 // The smaller of two numbers.
@@ -104,6 +94,7 @@ pub fn smaller(x: u64, y: u64) -> u64
 }
 
 // The opposite of a literal.
+#[tactic(auto, unfolding(crate::specs::Codes::opposite_code))]
 pub fn opposite(l: u32) -> u32
     requires { l < 2 ^ 31 }
     ensures { result ≡ opposite_code l }
@@ -116,17 +107,18 @@ pub fn head_at(heads: &[u32], k: usize) -> u64
     requires { 3 * k < length heads.now }
     ensures { result ≡ id_at heads.now k }
 {
-    wide(heads[3 * k])
+    u64::from(heads[3 * k])
 }
 
 // An index, of its rest and its quotient by 2 ^ 32.
 fn join(low: u32, high: u32) -> usize
     ensures { result ≡ low + 4294967296 * high }
 {
-    cell(low) + 4294967296 * cell(high)
+    low as usize + 4294967296 * high as usize
 }
 
 // Where the literals of the `k`-th clause begin.
+#[tactic(auto, unfolding(crate::specs::Store::start_at))]
 pub fn start_at(heads: &[u32], k: usize) -> usize
     requires { RoomFor heads.now k }
     ensures { result ≡ start_at heads.now k }
@@ -140,130 +132,71 @@ fn reached(id: u64, head: u64) -> usize
     ensures { result ≡ reached_by id head }
 {
     let difference = 9223372036854775808 + id - head / 2;
-    index(difference / 9223372036854775808)
+    (difference / 9223372036854775808) as usize
 }
 
 // The place of the live clause `id` among the first `n`, by halving.
-pub fn find(heads: &[u32], n: usize, id: u64) -> Found
+pub fn find(heads: &[u32], n: usize, id: u64) -> Timed<Option<usize>>
     requires { Searchable heads.now n id }
-    ensures place { FoundIn heads.now n id result }
-    ensures turns { Halvings n (turns_of result) }
+    ensures place { Finds heads.now n id result.value }
+    ensures turns { Halvings n result.turns }
 {
+    let mut turns: u64 = 0;
     if n == 0 {
-        return Found::Nowhere { turns: 0 };
+        return Timed { value: None, turns };
     }
     let mut base = 0;
     let mut span = n;
-    let mut turns: u64 = 0;
     while 1 < span {
         let half = span / 2;
         let middle = base + half;
-        base = base + half * reached(id, head_at(heads, middle));
-        span = span - half;
+        base += half * reached(id, head_at(heads, middle));
+        span -= half;
         turns += 1;
     }
-    if head_at(heads, base) == 2 * id {
-        return Found::At {
-            place: base,
-            turns: turns,
-        };
-    }
-    Found::Nowhere { turns: turns }
+    let value = if head_at(heads, base) == 2 * id {
+        Some(base)
+    } else {
+        None
+    };
+    Timed { value, turns }
 }
 
-// The greatest number of the form 2^k - 1 that is below `slots`, or 0.
+// The greatest number of the form 2^k - 1 that is below `slots`.
 fn mask(slots: usize) -> u64
     requires { 0 < slots }
     ensures { result < slots }
 {
-    let zeros = u64::leading_zeros(count(slots));
-    if 63 < zeros {
-        return 0;
-    }
-    let ones = (18446744073709551615 >> zeros) >> 1;
-    if ones < count(slots) {
-        return ones;
-    }
-    0
+    (1 << slots.ilog2()) - 1
 }
 
-// The bits of a number that a mask has.
-fn within(x: u64, most: u64) -> usize
-    ensures { result ≤ most }
+// Where the guess for `id` stands, if there is room for one. The first number of the table says how many of the bits of an id are
+// not used at the upper end, so that the guesses for few clauses do not lie all over a long table; and the mask leaves a power of 2
+// of the slots.
+#[inline]
+fn slot(guess: &[u32], id: u64) -> Option<usize>
+    ensures { IfSome result (λ at. at < length guess.now) }
 {
-    index(x & most)
-}
-
-// Where the guess for `id` stands. The first number of the table says how many of the bits of an id are not used at the upper
-// end, so that the guesses for few clauses do not lie all over a long table; and the mask leaves a power of 2 of the slots.
-fn slot(guess: &[u32], id: u64) -> usize
-    requires { 1 < length guess.now }
-    ensures { result < length guess.now }
-{
-    let bits = 18446744073709551615 >> (guess[0] % 64);
-    let most = mask(guess.len() - 1);
-    1 + within(id & bits, most)
+    if guess.len() < 2 {
+        return None;
+    }
+    let bits = u64::MAX >> (guess[0] % 64);
+    Some(1 + (id & bits & mask(guess.len() - 1)) as usize)
 }
 
 // How far a clause lies below the place that it would have if no id were left out and nothing had been given back. (A number
 // that makes no sense does no harm: a guess is looked at before it is believed.)
 fn below(id: u64, place: usize) -> usize {
-    std::num::wrapping_sub_usize(std::num::wrapping_sub_usize(index(id), 1), place)
+    (id as usize).wrapping_sub(1).wrapping_sub(place)
 }
 
 // How far the clause `id` is guessed to lie below that place.
+#[inline]
 fn noted(guess: &[u32], id: u64) -> usize {
-    if guess.len() < 2 {
-        return 0;
+    match slot(guess, id) {
+        Some(at) => guess[at] as usize,
+        None => 0,
     }
-    let at = slot(guess, id);
-    cell(guess[at])
-}
-
-// The guess for `id`; any place will do. A table of zeros is right as long as no id is left out and no room was
-// given back.
-pub fn guessed(guess: &[u32], id: u64) -> usize {
-    below(id, noted(guess, id))
-}
-
-// The place of the live clause `id` if the guess for it is right, else `n`. This is the first half of a `lookup`, of its own so that a
-// caller can make it ahead of time, and the memory where the clause's head stands is there once the rest is done.
-pub fn peek(heads: &[u32], n: usize, place: usize, id: u64) -> usize
-    requires { RoomFor heads.now n × (id < 2 ^ 60) }
-    ensures { Peeked heads.now n id result }
-{
-    if place < n {
-        if head_at(heads, place) == 2 * id {
-            return place;
-        }
-    }
-    n
-}
-
-// As `find`, behind a `peek` that came to `place`. A right guess costs no turn.
-pub fn lookup_at(heads: &[u32], n: usize, place: usize, id: u64) -> Found
-    requires searchable { Searchable heads.now n id }
-    requires peeked { Peeked heads.now n id place }
-    ensures place { FoundIn heads.now n id result }
-    ensures turns { AtMostHalvings n (turns_of result) }
-{
-    if place < n {
-        return Found::At {
-            place: place,
-            turns: 0,
-        };
-    }
-    find(heads, n, id)
-}
-
-// As `find`, with a guess first, which may be wrong.
-pub fn lookup(heads: &[u32], n: usize, guess: &[u32], id: u64) -> Found
-    requires { Searchable heads.now n id }
-    ensures place { FoundIn heads.now n id result }
-    ensures turns { AtMostHalvings n (turns_of result) }
-{
-    let place = peek(heads, n, guessed(guess, id), id);
-    lookup_at(heads, n, place, id)
 }
 
 impl<'a> View<'a> {
@@ -304,21 +237,12 @@ impl<'a> View<'a> {
         ensures place { Finds self.entry.heads.now self.entry.n id result.value }
         ensures turns { AtMostHalvings self.entry.n result.turns }
     {
-        if let Some(_) = peeked {
-            return Timed {
+        match peeked {
+            Some(_) => Timed {
                 value: peeked,
                 turns: 0,
-            };
-        }
-        match find(self.heads, self.n, id) {
-            Found::At { place, turns } => Timed {
-                value: Some(place),
-                turns: turns,
             },
-            Found::Nowhere { turns } => Timed {
-                value: None,
-                turns: turns,
-            },
+            None => find(self.heads, self.n, id),
         }
     }
 
@@ -338,19 +262,15 @@ impl<'a> View<'a> {
 pub fn note(guess: &mut [u32], id: u64, place: usize)
     ensures { length guess.new ≡ length guess.old }
 {
-    if guess.len() < 2 {
+    let Some(at) = slot(guess, id) else {
         return;
-    }
-    let moved = below(id, place);
-    if 4294967295 < moved {
+    };
+    let Ok(moved) = u32::try_from(below(id, place)) else {
         return;
+    };
+    if guess[at] != moved {
+        guess[at] = moved;
     }
-    let at = slot(guess, id);
-    let now = narrow(count(moved));
-    if guess[at] == now {
-        return;
-    }
-    guess[at] = now;
 }
 
 // The table is used as far as `n` clauses ask for: 64 to 128 slots for each, so that few of the ids that follow take the slot of
@@ -358,11 +278,9 @@ pub fn note(guess: &mut [u32], id: u64, place: usize)
 fn fit(guess: &mut [u32], n: usize)
     ensures { length guess.new ≡ length guess.old }
 {
-    if guess.len() == 0 {
-        return;
+    if let Some(unused) = guess.first_mut() {
+        *unused = n.leading_zeros().saturating_sub(6);
     }
-    let zeros = u64::leading_zeros(count(n));
-    guess[0] = if zeros < 6 { 0 } else { zeros - 6 };
 }
 
 // The next guess for each of the first `n` clauses is its place.
@@ -372,17 +290,14 @@ pub fn note_all(heads: &[u32], n: usize, guess: &mut [u32]) -> u64
     ensures long { length guess.new ≡ length guess.old }
 {
     fit(guess, n);
-    let mut place = 0;
-    let mut noted: u64 = 0;
-    while place < n {
+    for place in 0..n {
         note(guess, head_at(heads, place) / 2, place);
-        place += 1;
-        noted += 1;
     }
-    noted
+    n as u64
 }
 
 // The store becomes empty: its first clause, once there is one, begins where the literals do.
+#[tactic(auto, unfolding(crate::specs::Store::start_at))]
 pub fn begin(heads: &mut [u32])
     requires { RoomFor heads.old 0 }
     ensures begins { start_at heads.new 0 ≡ 0 }
@@ -393,14 +308,14 @@ pub fn begin(heads: &mut [u32])
 }
 
 // The head of the `n`-th clause, and where its literals end.
+#[tactic(auto, unfolding(crate::specs::Store::written))]
 fn write_head(heads: &mut [u32], n: usize, head: u32, end: usize)
     requires { RoomFor heads.old (n + 1) }
     ensures { heads.new ≡ written heads.old n head end }
 {
-    let all = count(end);
     heads[3 * n] = head;
-    heads[3 * n + 4] = narrow(all % 4294967296);
-    heads[3 * n + 5] = narrow(all / 4294967296);
+    heads[3 * n + 4] = (end % 4294967296) as u32;
+    heads[3 * n + 5] = (end / 4294967296) as u32;
 }
 
 // The clause that ends at `end` becomes the `n`-th, under `id`.
@@ -408,32 +323,16 @@ pub fn append(heads: &mut [u32], n: usize, id: u64, end: usize)
     requires { RoomFor heads.old (n + 1) × (id < 2 ^ 31) }
     ensures { heads.new ≡ written heads.old n (2 * id) end }
 {
-    write_head(heads, n, narrow(2 * id), end);
+    write_head(heads, n, (2 * id) as u32, end);
 }
 
 // The `k`-th clause, which is live, is deleted.
+#[tactic(auto, unfolding(crate::specs::Store::marked))]
 pub fn delete(heads: &mut [u32], k: usize)
     requires { (3 * k < length heads.old) × (id_at heads.old k % 2 ≡ 0) }
     ensures { heads.new ≡ marked heads.old k }
 {
-    heads[3 * k] = heads[3 * k] + 1;
-}
-
-// The literals from `from` up to `end` move down to `to`. Returns the turns.
-fn shift(lits: &mut [u32], from: usize, end: usize, to: usize) -> u64
-    requires { (to ≤ from) × ((from ≤ end) × (end ≤ length lits.old)) }
-    ensures { Moved lits.old from end to lits.new × (result ≡ end - from) }
-{
-    let mut source = from;
-    let mut target = to;
-    let mut moved: u64 = 0;
-    while source < end {
-        lits[target] = lits[source];
-        source += 1;
-        target += 1;
-        moved += 1;
-    }
-    moved
+    heads[3 * k] += 1;
 }
 
 // The `k`-th clause moves down behind those that stay, if it is live.
@@ -447,15 +346,13 @@ fn keep(heads: &mut [u32], lits: &mut [u32], k: usize, done: Compacted) -> Compa
     }
     let from = start_at(heads, k);
     let end = start_at(heads, k + 1);
-    let moved = shift(lits, from, end, done.used);
+    lits.copy_within(from..end, done.used);
     let used = done.used + (end - from);
     write_head(heads, done.n, head, used);
-    let next = done.n + 1;
-    let turns = done.turns + moved;
     Compacted {
-        n: next,
-        used: used,
-        turns: turns,
+        n: done.n + 1,
+        used,
+        turns: done.turns + (end - from) as u64,
     }
 }
 
@@ -469,17 +366,9 @@ pub fn compact(heads: &mut [u32], lits: &mut [u32], n: usize) -> Compacted
         used: 0,
         turns: 0,
     };
-    let mut k = 0;
-    let mut passed: u64 = 0;
-    while k < n {
+    for k in 0..n {
         done = keep(heads, lits, k, done);
-        k += 1;
-        passed += 1;
     }
-    let turns = done.turns + passed;
-    Compacted {
-        n: done.n,
-        used: done.used,
-        turns: turns,
-    }
+    done.turns += n as u64;
+    done
 }

@@ -1,11 +1,7 @@
 -- `clauses::compact` meets its contract. The loop's invariant: what the first k clauses left of themselves is a store that holds
--- the live ones among them, and what is behind is as it was. The measure is what is left of n. Assumes nothing.
-use Rattle.std.proofs.Common.{◌-◌}
+-- the live ones among them, and what is behind is as it was. Assumes nothing.
 use Rattle.clauses.proofs.Compacting.{Compacting}
 use Rattle.clauses.proofs.compact.Given as goal
 
 abbrev pub invariant-loop-k : goal.invariant-loop-k
-invariant-loop-k l = Compacting l.initial.heads l.initial.lits l.n l.heads l.lits l.k l.done.n l.done.used l.done.turns l.passed
-
-abbrev pub decreases-loop-k : goal.decreases-loop-k
-decreases-loop-k l = l.n - l.k
+invariant-loop-k l = Compacting l.initial.heads l.initial.lits l.n l.heads l.lits l.k l.done.n l.done.used l.done.turns
