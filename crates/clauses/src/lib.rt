@@ -154,12 +154,11 @@ pub fn find(heads: &[u32], n: usize, id: u64) -> Timed<Option<usize>>
         span -= half;
         turns += 1;
     }
-    let value = if head_at(heads, base) == 2 * id {
-        Some(base)
-    } else {
-        None
-    };
-    Timed { value, turns }
+    let right = head_at(heads, base) == 2 * id;
+    Timed {
+        value: right.then_some(base),
+        turns,
+    }
 }
 
 // The greatest number of the form 2^k - 1 that is below `slots`.
@@ -223,10 +222,8 @@ impl<'a> View<'a> {
         requires { RoomFor self.heads.now self.n × (id < 2 ^ 60) }
         ensures { Peeks self.entry.heads.now self.entry.n id result }
     {
-        if place < self.n && head_at(self.heads, place) == 2 * id {
-            return Some(place);
-        }
-        None
+        let right = place < self.n && head_at(self.heads, place) == 2 * id;
+        right.then_some(place)
     }
 
     // As `find`, behind a `peek`. A right guess costs no turn.
@@ -238,8 +235,8 @@ impl<'a> View<'a> {
         ensures turns { AtMostHalvings self.entry.n result.turns }
     {
         match peeked {
-            Some(_) => Timed {
-                value: peeked,
+            Some(place) => Timed {
+                value: Some(place),
                 turns: 0,
             },
             None => find(self.heads, self.n, id),
