@@ -1,6 +1,7 @@
 // The store of live clauses, in two slices that the caller lends: how a clause is added, found by its id and deleted, and how
 // deleted clauses give their room back. specs/Store.antt says which live clauses two slices hold. Nothing is promised of
 // slices that hold no store; that what a function leaves is a store again is said by laws in proofs/, not by its contract.
+// The slices are memory that is lent once, longer than what is in use, so how many clauses there are stands beside them.
 #![tactic(auto)]
 
 ghost use Rattle.std.specs.Prelude.{◌≡◌, ◌+◌, ◌-◌, ◌*◌, ◌/◌, ◌%◌, ◌^◌, ◌<◌, ◌≤◌, min, length, IfSome};
@@ -102,7 +103,7 @@ pub fn opposite(l: u32) -> u32
     if l % 2 == 0 { l + 1 } else { l - 1 }
 }
 
-// The head of the `k`-th clause: twice its id, plus 1 if it is deleted.
+// The head of the `k`-th clause: twice its id, plus 1 if it is deleted. (One number, as `Store` has it.)
 pub fn head_at(heads: &[u32], k: usize) -> u64
     requires { 3 * k < length heads.now }
     ensures { result ≡ id_at heads.now k }
@@ -135,7 +136,8 @@ fn reached(id: u64, head: u64) -> usize
     (difference / 9223372036854775808) as usize
 }
 
-// The place of the live clause `id` among the first `n`, by halving.
+// The place of the live clause `id` among the first `n`, by halving. The heads stand three numbers apart, and std's searches look at
+// each number of a slice.
 pub fn find(heads: &[u32], n: usize, id: u64) -> Timed<Option<usize>>
     requires { Searchable heads.now n id }
     ensures place { Finds heads.now n id result.value }
