@@ -1,19 +1,18 @@
 -- Short numbers taken one after the other: each is a token that `feed` would have taken in the same way, as a literal or as a
 -- hint. Assumes nothing.
+use Rattle.std.specs.Prelude.{Some, Ok}
 use Rattle.std.proofs.Common.{ℕ, ◌+◌, ◌*◌, ◌/◌, ◌%◌, ◌≤◌, ◌<◌, ◌≡◌, refl, sym, ap, subst, ◌∙◌, ⊎_elim, List, arith, le-leb, length, drop, set, length-set}
 use Rattle.rules.specs.Limits.{max_variable, max_id}
 use Rattle.text.specs.Scan.{Scans, Short, ShortNumber}
 use Rattle.text.specs.declared.Token.{Token as Found}
 use Rattle.text.specs.declared.Token.TheVariants.{Plus, Minus}
 use Rattle.formula.specs.Body.{item_of}
-use Rattle.formula.specs.declared.body.Item.TheVariants.{Literal as Lit}
-use Rattle.steps.specs.Feeding.{FedBy, codes, phase_of, literal_fed, hint_fed}
+use Rattle.steps.specs.Feeding.{FedBy, codes, phase_of, literal_fed, code_fed}
 use Rattle.steps.specs.Reading.{Reading, Along, GoesOnward}
 use Rattle.steps.specs.declared.feeding.Kind.{Kind}
 use Rattle.steps.specs.declared.feeding.Kind.TheVariants.{Literals, Hints}
 use Rattle.steps.specs.declared.feeding.Phase.{Phase}
-use Rattle.steps.specs.declared.feeding.Fed.TheVariants.{More}
-use Rattle.steps.specs.declared.feeding.Kept.TheVariants.{Stored}
+use Rattle.steps.specs.declared.feeding.Fed.TheVariants.{More, Addition}
 use Rattle.steps.proofs.Coding.{positive}
 use Rattle.steps.proofs.Feedings.{feeds_literal, feeds_hint}
 use Rattle.steps.proofs.Readings.{scanned_within, reading_on}
@@ -22,22 +21,18 @@ use Rattle.steps.proofs.Readings.{scanned_within, reading_on}
 record Taken (s : List ℕ) (i code next m : ℕ) : Type 0 where
   token : Found
   scan : Scans i (drop i s) token next
-  is : item_of m token ≡ Lit code
+  is : item_of m token ≡ Ok (Some code)
 
 short_taken : (s : List ℕ) (i code bytes m : ℕ) → ShortNumber i (drop i s) code bytes → code < 2 * m + 2 → Taken s i code (i + bytes) m
 short_taken s i code bytes m h l =
     ⊎_elim
-    (λ e. record { token = Plus h.size; scan = e.1; is = rw (item_of, le-leb h.size m (omega (arith, e.0, l))) (ap Lit (sym e.0)) })
-    (λ e. record { token = Minus h.size; scan = e.1; is = rw (item_of, le-leb h.size m (omega (arith, e.0, l))) (ap Lit (sym e.0)) })
+    (λ e. record { token = Plus h.size; scan = e.1; is = rw (item_of, le-leb h.size m (omega (arith, e.0, l))) (ap (λ (k : ℕ). Ok (Some k)) (sym e.0)) })
+    (λ e. record { token = Minus h.size; scan = e.1; is = rw (item_of, le-leb h.size m (omega (arith, e.0, l))) (ap (λ (k : ℕ). Ok (Some k)) (sym e.0)) })
     h.case
 
 pub along-start : (s : List ℕ) (from first limit : ℕ) (slots : List ℕ) → from ≤ length s → Along s from first limit slots slots from first
 along-start s from first limit slots h =
     record { literals = λ cells start used lits₀ hints₀ hints n many p q r. r; hints = λ cells start used lits₀ hints₀ lits n place p r. r; later = omega arith; within = h; long = refl }
-
--- No hint is stored while literals are read.
-no_hints : (cells : ℕ) (s : List ℕ) (at used : ℕ) (lits₀ hints₀ lits hints : List ℕ) (i n end many : ℕ) → Reading cells s at used lits₀ hints₀ lits hints i (phase_of Literals n end many) → many ≡ 0
-no_hints cells s at used lits₀ hints₀ lits hints i n end many r = omega (arith, r.stands.noted.count, ap length r.stands.begun.1)
 
 module _ (s : List ℕ) (from first limit : ℕ) (slots₀ slots : List ℕ) (i end : ℕ) (a : Along s from first limit slots₀ slots i end) (r : ℕ) (short : Short i (drop i s) r) (some : r ≡ 0 → ⊥) where
   -- One number more.
@@ -56,23 +51,20 @@ module _ (s : List ℕ) (from first limit : ℕ) (slots₀ slots : List ℕ) (i 
     unfolding literal_fed
     literal_more cells start used lits₀ hints₀ hints n many lc lm rd =
         let t = taken max_variable lm in
-        let fed : FedBy (item_of max_variable t.token) end cells slots slots' (literal_fed n end) (More (phase_of Literals n (end + 1) 0)) =
-        record { kept = Stored; keeps = record { case = (code, t.is, omega arith, room, put) }; is = refl } in
-        subst
-        (λ (k : ℕ). Reading cells s start used lits₀ hints₀ slots' hints (i + r % 16) (phase_of Literals n (end + 1) k))
-        (sym (no_hints cells s start used lits₀ hints₀ slots hints i n end many rd))
-        (reading_on cells s start used lits₀ hints₀ slots hints i (phase_of Literals n end many) rd t.token (i + r % 16) t.scan slots' hints _
-        (feeds_literal (phase_of Literals n end many) t.token cells slots hints slots' _ refl fed) _ refl)
+        let fed : FedBy (item_of max_variable t.token) end cells slots slots' (literal_fed (phase_of Literals n end many)) (Ok (More (phase_of Literals n (end + 1) many))) =
+        record { kept = Ok (Some (end + 1)); keeps = record { case = (code, t.is, omega arith, room, put, refl) }; is = refl } in
+        reading_on cells s start used lits₀ hints₀ slots hints i (phase_of Literals n end many) rd t.token (i + r % 16) t.scan slots' hints _
+        (feeds_literal (phase_of Literals n end many) t.token cells slots hints slots' _ refl fed) _ refl
 
     hint_more : (cells start used : ℕ) (lits₀ hints₀ lits : List ℕ) (n place : ℕ) → limit ≤ 2 * max_id + 2 → Reading cells s start used lits₀ hints₀ lits slots i (phase_of Hints n place end)
         → Reading cells s start used lits₀ hints₀ lits slots' (i + r % 16) (phase_of Hints n place (end + 1))
-    unfolding hint_fed
+    unfolding code_fed
     hint_more cells start used lits₀ hints₀ lits n place lm rd =
         let t = taken max_id lm in
-        let fed : FedBy (item_of max_id t.token) end codes slots slots' (hint_fed n place end) (More (phase_of Hints n place (end + 1))) =
-        record { kept = Stored; keeps = record { case = (code, t.is, omega arith, room, put) }; is = refl } in
+        let fed : FedBy (item_of max_id t.token) end codes slots slots' (code_fed (phase_of Hints n place end) (Addition n place end)) (Ok (More (phase_of Hints n place (end + 1)))) =
+        record { kept = Ok (Some (end + 1)); keeps = record { case = (code, t.is, omega arith, room, put, refl) }; is = refl } in
         reading_on cells s start used lits₀ hints₀ lits slots i (phase_of Hints n place end) rd t.token (i + r % 16) t.scan lits slots' _
-        (feeds_hint (phase_of Hints n place end) t.token cells lits slots refl slots' _ fed) _ refl
+        (feeds_hint (phase_of Hints n place end) t.token cells lits slots refl slots' _ _ refl fed) _ refl
 
     pub along_more : (bytes : ℕ) → bytes ≡ r % 16 → Along s from first limit slots₀ slots' (i + bytes) (end + 1)
     along_more bytes q =

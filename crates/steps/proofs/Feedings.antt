@@ -1,72 +1,79 @@
 -- What one token more makes of a step that is read in part, by the functions of src/feeding.rt: the codes that they store
 -- stand for what `advance` says. Assumes nothing.
 use Rattle.std.proofs.Common.{ℕ, ◌+◌, ◌*◌, ◌/◌, ◌≤◌, ◌<◌, ◌≡◌, Bool, true, false, List, [], ◌∷◌, ◌++◌, map, leb, length, set}
-use Rattle.std.proofs.Common.{refl, sym, ap, subst, ◌∙◌, inl, inr, ⊎_elim, arith, leb-true, take-append-drop}
+use Rattle.std.proofs.Common.{refl, sym, ap, subst, ◌∙◌, inl, inr, ⊎_elim, arith, min, le-leb, leb-true, take-append-drop}
+use Rattle.std.specs.Prelude.{Option as Maybe, Some, None, Ok, Err}
 use Rattle.std.proofs.Math.Option.{Option, none, some}
 use Rattle.meaning.proofs.Truth.{bool_cases}
 use Rattle.rules.specs.Limits.{max_variable, max_id}
 use Rattle.rules.specs.Text.{Token, Proper, nought, plus, minus, letter_d, other, is_letter_d, literal}
-use Rattle.rules.specs.Steps.{clause_id, hint}
-use Rattle.text.specs.Scan.{capped}
+use Rattle.rules.specs.Steps.{add, delete, clause_id, hint}
+use Rattle.text.specs.Scan.{most, capped}
 use Rattle.text.specs.declared.Token.{Token as Found}
 use Rattle.text.specs.declared.Token.TheVariants.{Nought, Plus, Minus, LetterD, Other, Nothing}
 use Rattle.text.proofs.Tokens.{capped_test}
 use Rattle.clauses.specs.Codes.{literal_of, hint_of, half}
 use Rattle.clauses.proofs.Literals.{variable-literal}
 use Rattle.formula.specs.Body.{item_of, Placed, AllBelow}
-use Rattle.formula.specs.declared.body.Item.{Item}
-use Rattle.formula.specs.declared.body.Item.TheVariants.{Literal as Lit, End, Wrong}
+use Rattle.formula.specs.declared.body.NoLiteral.{NoLiteral}
+use Rattle.formula.specs.declared.Fault.TheVariants.{Unreadable, TooShort}
 use Rattle.formula.proofs.Bodies.{placed_more, map_more, below_more}
 use Rattle.formula.proofs.Fillings.{placed_length}
-use Rattle.steps.specs.Partials.{Partial, at_start, got_id, in_literals, in_hints, in_ids, Advance, goes_on, unreadable, item_or, literal_or, advance}
-use Rattle.steps.specs.Feeding.{id_within, id_item, KeepCase, FedBy, codes, phase_of, literal_fed, hint_fed, id_fed, StartCase, FedStart, BodyCase, FedBody, IsId, partial_of, Begun, Midway, GoesOn, TooLarge, FeedCase, Feeds}
+use Rattle.steps.specs.Partials.{Partial, at_start, got_id, in_literals, in_hints, in_ids, Advance, goes_on, ends, unreadable, item_or, literal_or, advance}
+use Rattle.steps.specs.Feeding.{id_within, Item, id_item, Kept, KeepCase, Outcome, FedBy, codes, phase_of, literal_fed, code_fed, start_fed, FedStart, BodyCase, FedBody, IsId, partial_of, Begun, Midway, GoesOn, TooLarge, FeedCase, Feeds}
 use Rattle.steps.specs.declared.feeding.Kind.{Kind}
 use Rattle.steps.specs.declared.feeding.Kind.TheVariants.{Start, Body, Literals, Hints, Ids}
 use Rattle.steps.specs.declared.feeding.Phase.{Phase}
 use Rattle.steps.specs.declared.feeding.Fed.{Fed}
-use Rattle.steps.specs.declared.feeding.Fed.TheVariants.{More, Addition, Deletion, Unreadable, TooShort}
-use Rattle.steps.specs.declared.feeding.Kept.{Kept}
-use Rattle.steps.specs.declared.feeding.Kept.TheVariants.{Stored, Ended, Refused, Full}
+use Rattle.steps.specs.declared.feeding.Fed.TheVariants.{Addition, Deletion}
 use Rattle.steps.proofs.Coding.{Told, size_same, literal_told, hint_told, id_told, keeps_long}
+
+-- A number, and neither a number nor the 0 behind the last one
+
+abbrev Num : ℕ → Item
+Num x = Ok (Some x)
+
+abbrev Wrong : Item
+Wrong = Err (record {})
 
 -- An item, or the 0 behind the items
 
 module _ {A : Type 0} (item : Token → Option A) (of : ℕ → A) (on : A → Advance) (end : Advance) (t : Token) where
-  item_on : (x : ℕ) → Told item of t (Lit x) → item_or item on end t ≡ on (of x)
+  item_on : (x : ℕ) → Told item of t (Num x) → item_or item on end t ≡ on (of x)
   unfolding item_or
   item_on x say = rw (say.0, item_or, say.1)
 
-  item_end : Told item of t End → item_or item on end t ≡ end
+  item_end : Told item of t (Ok None) → item_or item on end t ≡ end
   unfolding item_or
   item_end say = rw (say, item_or)
 
-  item_wrong : Told item of t Wrong → item_or item on end t ≡ unreadable
+  item_wrong : (e : NoLiteral) → Told item of t (Err e) → item_or item on end t ≡ unreadable
   unfolding item_or
-  item_wrong say = rw (say.0, item_or, say.1)
+  item_wrong e say = rw (say.0, item_or, say.1)
 
 -- At the end of the tokens an item is wrong, and so the step is unreadable.
-fed_refused : (x : Item) (at limit : ℕ) (before after : List ℕ) (kept : Kept) → x ≡ Wrong → KeepCase x at limit before after kept → kept ≡ Refused
-fed_refused x at limit before after Stored e h = absurd (let q = h.1 in let z : ◌≡◌ {A = ℕ} 0 1 = cc in omega arith)
-fed_refused x at limit before after Ended e h = absurd (let q = h.0 in let z : ◌≡◌ {A = ℕ} 0 1 = cc in omega arith)
-fed_refused x at limit before after Refused e h = refl
-fed_refused x at limit before after Full e h = absurd (let q = h.1 in let z : ◌≡◌ {A = ℕ} 0 1 = cc in omega arith)
+fed_refused : (x : Item) (at limit : ℕ) (before after : List ℕ) (kept : Kept) → x ≡ Wrong → KeepCase x at limit before after kept → kept ≡ Err Unreadable
+fed_refused x at limit before after (Ok (Some next)) e h = absurd (let q = h.1 in let z : ◌≡◌ {A = ℕ} 0 1 = cc in omega arith)
+fed_refused x at limit before after (Ok None) e h = absurd (let q = h.0 in let z : ◌≡◌ {A = ℕ} 0 1 = cc in omega arith)
+fed_refused x at limit before after (Err Unreadable) e h = refl
+fed_refused x at limit before after (Err TooShort) e h = absurd (let q = h.1 in let z : ◌≡◌ {A = ℕ} 0 1 = cc in omega arith)
 
 -- The code of an item within a limit.
-item_below : (m : ℕ) (t : Found) (x : ℕ) → item_of m t ≡ Lit x → x ≤ 2 * m + 1
+item_below : (m : ℕ) (t : Found) (x : ℕ) → item_of m t ≡ Num x → x ≤ 2 * m + 1
 item_below m Nought x e = absurd (let z : ◌≡◌ {A = ℕ} 0 1 = cc in omega arith)
 item_below m (Plus v) x e =
     bool_cases (leb v m)
-    (λ y. let q : Lit (2 * v) ≡ Lit x = (rw (y, item_of) at e) in let s : 2 * v ≡ x = cc in let l = leb-true v m y in omega arith)
-    (λ f. let q : Wrong ≡ Lit x = (rw (f, item_of) at e) in absurd (let z : ◌≡◌ {A = ℕ} 0 1 = cc in omega arith))
+    (λ y. let q : Num (2 * v) ≡ Num x = (rw (y, item_of) at e) in let s : 2 * v ≡ x = cc in let l = leb-true v m y in omega arith)
+    (λ f. let q : Wrong ≡ Num x = (rw (f, item_of) at e) in absurd (let z : ◌≡◌ {A = ℕ} 0 1 = cc in omega arith))
 item_below m (Minus v) x e =
     bool_cases (leb v m)
-    (λ y. let q : Lit (2 * v + 1) ≡ Lit x = (rw (y, item_of) at e) in let s : 2 * v + 1 ≡ x = cc in let l = leb-true v m y in omega arith)
-    (λ f. let q : Wrong ≡ Lit x = (rw (f, item_of) at e) in absurd (let z : ◌≡◌ {A = ℕ} 0 1 = cc in omega arith))
+    (λ y. let q : Num (2 * v + 1) ≡ Num x = (rw (y, item_of) at e) in let s : 2 * v + 1 ≡ x = cc in let l = leb-true v m y in omega arith)
+    (λ f. let q : Wrong ≡ Num x = (rw (f, item_of) at e) in absurd (let z : ◌≡◌ {A = ℕ} 0 1 = cc in omega arith))
 item_below m LetterD x e = absurd (let z : ◌≡◌ {A = ℕ} 0 1 = cc in omega arith)
 item_below m Other x e = absurd (let z : ◌≡◌ {A = ℕ} 0 1 = cc in omega arith)
 item_below m Nothing x e = absurd (let z : ◌≡◌ {A = ℕ} 0 1 = cc in omega arith)
 
-id_below : (m : ℕ) (t : Found) (x : ℕ) → id_item m t ≡ Lit x → x ≤ 2 * m + 1
+id_below : (m : ℕ) (t : Found) (x : ℕ) → id_item m t ≡ Num x → x ≤ 2 * m + 1
 id_below m Nought x e = item_below m Nought x e
 id_below m (Plus v) x e = item_below m (Plus v) x e
 id_below m (Minus v) x e = absurd (let z : ◌≡◌ {A = ℕ} 0 1 = cc in omega arith)
@@ -91,18 +98,18 @@ placed_same before after used p = p.stored ∙ take-append-drop used before
 
 -- Literals: behind the id, or behind other literals
 
-record LiteralsAt (cells : ℕ) (p : Partial) (t : Token) (n end : ℕ) (lits₀ : List ℕ) (used : ℕ) (lits hints₀ hints : List ℕ) : Type 0 where
+record LiteralsAt (cells : ℕ) (p : Partial) (t : Token) (n end many : ℕ) (lits₀ : List ℕ) (used : ℕ) (lits hints₀ hints : List ℕ) : Type 0 where
   new : List ℕ
   leads : advance p t ≡ literal_or n (map literal_of new) t
   is_id : IsId n
   fit : used ≤ length lits₀
   placed : Placed lits₀ used new lits end
-  noted : Placed hints₀ 0 [] hints 0
+  noted : Placed hints₀ 0 [] hints many
   below : AllBelow cells new
 
-module _ (cells : ℕ) (p : Partial) (t : Token) (n end : ℕ) (lits₀ : List ℕ) (used : ℕ) (lits hints₀ hints : List ℕ) (a : LiteralsAt cells p t n end lits₀ used lits hints₀ hints) where
-  literal_stored : (x : ℕ) (lits' : List ℕ) → Told (literal max_variable) literal_of t (Lit x) → x < cells → end < length lits → lits' ≡ set lits end x
-      → GoesOn cells p t (phase_of Literals n (end + 1) 0) lits₀ used lits' hints₀ hints
+module _ (cells : ℕ) (p : Partial) (t : Token) (n end many : ℕ) (lits₀ : List ℕ) (used : ℕ) (lits hints₀ hints : List ℕ) (a : LiteralsAt cells p t n end many lits₀ used lits hints₀ hints) where
+  literal_stored : (x : ℕ) (lits' : List ℕ) → Told (literal max_variable) literal_of t (Num x) → x < cells → end < length lits → lits' ≡ set lits end x
+      → GoesOn cells p t (phase_of Literals n (end + 1) many) lits₀ used lits' hints₀ hints
   unfolding literal_or
   literal_stored x lits' say small room put =
       record {
@@ -120,7 +127,7 @@ module _ (cells : ℕ) (p : Partial) (t : Token) (n end : ℕ) (lits₀ : List �
         };
       }
 
-  literal-ended : Told (literal max_variable) literal_of t End → GoesOn cells p t (phase_of Hints n end 0) lits₀ used lits hints₀ hints
+  literal-ended : Told (literal max_variable) literal_of t (Ok None) → GoesOn cells p t (phase_of Hints n end many) lits₀ used lits hints₀ hints
   unfolding literal_or
   literal-ended say =
       record {
@@ -131,9 +138,9 @@ module _ (cells : ℕ) (p : Partial) (t : Token) (n end : ℕ) (lits₀ : List �
 
   literal_wrong : Told (literal max_variable) literal_of t Wrong → advance p t ≡ unreadable
   unfolding literal_or
-  literal_wrong say = a.leads ∙ item_wrong (literal max_variable) literal_of _ _ t say
+  literal_wrong say = a.leads ∙ item_wrong (literal max_variable) literal_of _ _ t _ say
 
-  literal_large : (x : ℕ) → Told (literal max_variable) literal_of t (Lit x) → cells ≤ x → TooLarge cells p t
+  literal_large : (x : ℕ) → Told (literal max_variable) literal_of t (Num x) → cells ≤ x → TooLarge cells p t
   unfolding literal_or
   literal_large x say h =
       record {
@@ -156,25 +163,21 @@ told_by item of made tells t found x cap e = subst (Told item of t) (ap made (sy
 
 -- The id: what it says of the token.
 
-start_told : (t : Token) → Proper t → (1 ≤ id_within max_id (capped t) → clause_id t ≡ some (id_within max_id (capped t))) × (id_within max_id (capped t) ≡ 0 → clause_id t ≡ none)
-unfolding clause_id
-start_told nought h = ((λ l. absurd (omega arith)), (λ e. refl))
-start_told (plus n) h =
-    bool_cases (leb n max_id)
-    (λ y. let same = size_same max_id n (omega arith) y in
-    rw (id_within, capped_test max_id n (omega arith), y, same) ((λ l. refl), (λ e. absurd (omega arith))))
-    (λ f. rw (id_within, capped_test max_id n (omega arith), f) ((λ l. absurd (omega arith)), (λ e. refl)))
-start_told (minus n) h = ((λ l. absurd (omega arith)), (λ e. refl))
-start_told letter_d h = ((λ l. absurd (omega arith)), (λ e. refl))
-start_told other h = ((λ l. absurd (omega arith)), (λ e. refl))
+abbrev IdTold : Token → Maybe ℕ → Type 0
+IdTold t (Some n) = (clause_id t ≡ some n) × IsId n
+IdTold t None = clause_id t ≡ none
 
-id_within_lem : (m : ℕ) (t : Found) → id_within m t ≤ m
-id_within_lem m Nought = omega arith
-id_within_lem m (Plus v) = bool_cases (leb v m) (λ y. rw (id_within, y) (leb-true v m y)) (λ f. rw (id_within, f) (omega arith))
-id_within_lem m (Minus v) = omega arith
-id_within_lem m LetterD = omega arith
-id_within_lem m Other = omega arith
-id_within_lem m Nothing = omega arith
+id_told_by : (t : Token) → Proper t → IdTold t (id_within max_id (capped t))
+unfolding clause_id
+id_told_by nought h = refl
+id_told_by (plus n) h =
+    bool_cases (leb n max_id)
+    (λ y. rw (id_within, le-leb 1 (min n most) (omega (arith, h)), capped_test max_id n (omega arith), y, size_same max_id n (omega arith) y)
+    (rw y refl, record { positive = h; within = leb-true n max_id y }))
+    (λ f. rw (id_within, le-leb 1 (min n most) (omega (arith, h)), capped_test max_id n (omega arith), f) (rw f refl))
+id_told_by (minus n) h = refl
+id_told_by letter_d h = refl
+id_told_by other h = refl
 
 start_next : (t : Token) (n : ℕ) → clause_id t ≡ some n → advance at_start t ≡ goes_on (got_id n)
 unfolding advance
@@ -220,10 +223,17 @@ module _ (phase : Phase) (t : Found) (cells : ℕ) (lits hints : List ℕ) where
   leads_from : (p : Partial) (a : Advance) (x : Midway cells phase t lits hints) → x.sofar ≡ p → advance p x.token ≡ a → advance x.sofar x.token ≡ a
   leads_from p a x e q = ap (λ (p : Partial). advance p x.token) e ∙ q
 
+  -- Nothing is stored yet, neither literals nor hints.
+  none_placed : (x : Midway cells phase t lits hints) → x.stands.new ≡ [] → Placed x.lits₀ x.used [] lits phase.end
+  none_placed x e = subst (λ (l : List ℕ). Placed x.lits₀ x.used l lits phase.end) e x.stands.placed
+
+  none-noted : (x : Midway cells phase t lits hints) → x.stands.told ≡ [] → Placed x.hints₀ 0 [] hints phase.many
+  none-noted x e = subst (λ (l : List ℕ). Placed x.hints₀ 0 l hints phase.many) e x.stands.noted
+
   -- What was kept decides, and at the end of the tokens nothing was.
-  feeds_by : (x : Item) (place limit : ℕ) (before after lits' hints' : List ℕ) (fed : Kept → Fed) (r : Fed) → FedBy x place limit before after fed r
-      → ((kept : Kept) → KeepCase x place limit before after kept → FeedCase phase t cells lits hints lits' hints' (fed kept)) → (t ≡ Nothing → x ≡ Wrong) → fed Refused ≡ Unreadable
-      → length lits' ≡ length lits → length hints' ≡ length hints → Feeds phase t cells lits hints lits' hints' r
+  feeds_by : (x : Item) (place limit : ℕ) (before after lits' hints' : List ℕ) (fed : Kept → Outcome) (r : Outcome) → FedBy x place limit before after fed r
+      → ((kept : Kept) → KeepCase x place limit before after kept → FeedCase phase t cells lits hints lits' hints' (fed kept)) → (t ≡ Nothing → x ≡ Wrong)
+      → fed (Err Unreadable) ≡ Err Unreadable → length lits' ≡ length lits → length hints' ≡ length hints → Feeds phase t cells lits hints lits' hints' r
   feeds_by x place limit before after lits' hints' fed r by cases ending refused l h =
       record {
         case = subst (FeedCase phase t cells lits hints lits' hints') (sym by.is) (cases by.kept by.keeps.case);
@@ -234,60 +244,42 @@ module _ (phase : Phase) (t : Found) (cells : ℕ) (lits hints : List ℕ) where
 
   -- Literals
 
-  module _ (lits' : List ℕ) (r : Fed) (at : (x : Midway cells phase t lits hints) → LiteralsAt cells x.sofar x.token phase.id phase.end x.lits₀ x.used lits x.hints₀ hints)
-      (fed : FedBy (item_of max_variable t) phase.end cells lits lits' (literal_fed phase.id phase.end) r) where
-    literal_case : (kept : Kept) → KeepCase (item_of max_variable t) phase.end cells lits lits' kept → FeedCase phase t cells lits hints lits' hints (literal_fed phase.id phase.end kept)
+  -- A reader that stands at this phase and may take a literal.
+  abbrev TakesLiteral : Midway cells phase t lits hints → Type 0
+  TakesLiteral x = LiteralsAt cells x.sofar x.token phase.id phase.end phase.many x.lits₀ x.used lits x.hints₀ hints
+
+  module _ (lits' : List ℕ) (r : Outcome) (at : (x : Midway cells phase t lits hints) → TakesLiteral x)
+      (fed : FedBy (item_of max_variable t) phase.end cells lits lits' (literal_fed phase) r) where
+    literal-says : (y : Item) → item_of max_variable t ≡ y → (x : Midway cells phase t lits hints) → Told (literal max_variable) literal_of x.token y
+    literal-says y q x = told_by (literal max_variable) literal_of (item_of max_variable) literal_told x.token t y x.cap q
+
+    literal_case : (kept : Kept) → KeepCase (item_of max_variable t) phase.end cells lits lits' kept → FeedCase phase t cells lits hints lits' hints (literal_fed phase kept)
     unfolding literal_fed
-    literal_case Stored h =
-        λ x.
-        literal_stored cells _ _ _ _ _ _ lits _ hints (at x) h.0 lits' (told_by (literal max_variable) literal_of (item_of max_variable) literal_told x.token t (Lit h.0) x.cap h.1) h.2 h.3 h.4
-    literal_case Ended h =
-        rw h.1 (λ x. literal-ended cells _ _ _ _ _ _ lits _ hints (at x) (told_by (literal max_variable) literal_of (item_of max_variable) literal_told x.token t End x.cap h.0))
-    literal_case Refused h =
-        ((λ x. literal_wrong cells _ _ _ _ _ _ lits _ hints (at x) (told_by (literal max_variable) literal_of (item_of max_variable) literal_told x.token t Wrong x.cap h.0)), h.1, refl)
-    literal_case Full h = (
-      (λ x. ⊎_elim
-          (λ l. inr (inr (literal_large cells _ _ _ _ _ _ lits _ hints (at x) h.0 (told_by (literal max_variable) literal_of (item_of max_variable) literal_told x.token t (Lit h.0) x.cap h.1) l)))
-          (λ f. inl f)
-          h.2),
-      h.3,
-      refl,
-    )
+    literal_case (Ok (Some next)) h =
+        rw h.5 (λ x. literal_stored cells _ _ _ _ _ _ _ lits _ hints (at x) h.0 lits' (literal-says (Num h.0) h.1 x) h.2 h.3 h.4)
+    literal_case (Ok None) h = rw h.1 (λ x. literal-ended cells _ _ _ _ _ _ _ lits _ hints (at x) (literal-says (Ok None) h.0 x))
+    literal_case (Err Unreadable) h = ((λ x. literal_wrong cells _ _ _ _ _ _ _ lits _ hints (at x) (literal-says Wrong h.0 x)), h.1, refl)
+    literal_case (Err TooShort) h =
+        ((λ x. ⊎_elim (λ l. inr (inr (literal_large cells _ _ _ _ _ _ _ lits _ hints (at x) h.0 (literal-says (Num h.0) h.1 x) l))) (λ f. inl f) h.2), h.3, refl)
 
     literal_feeds : Feeds phase t cells lits hints lits' hints r
     unfolding literal_fed
-    literal_feeds = feeds_by _ _ _ lits lits' lits' hints (literal_fed phase.id phase.end) r fed literal_case (λ q. rw q) refl (keeps_long _ _ _ _ _ _ fed.keeps) refl
+    literal_feeds = feeds_by _ _ _ lits lits' lits' hints (literal_fed phase) r fed literal_case (λ q. rw q) refl (keeps_long _ _ _ _ _ _ fed.keeps) refl
 
-  in_literals_lem : phase.kind ≡ Literals → (x : Midway cells phase t lits hints) → LiteralsAt cells x.sofar x.token phase.id phase.end x.lits₀ x.used lits x.hints₀ hints
+  in_literals_lem : phase.kind ≡ Literals → (x : Midway cells phase t lits hints) → TakesLiteral x
   unfolding advance
   in_literals_lem e x =
       let s = x.stands in
       let b = stands_begun Literals e x in
-      record {
-        new = s.new;
-        leads = leads_from _ _ x (stands_is Literals e x) refl;
-        is_id = b.0;
-        fit = s.fit;
-        placed = s.placed;
-        noted = placed_none x.hints₀ s.told hints 0 phase.many b.1 s.noted;
-        below = s.below;
-      }
+      record { new = s.new; leads = leads_from _ _ x (stands_is Literals e x) refl; is_id = b.0; fit = s.fit; placed = s.placed; noted = none-noted x b.1; below = s.below }
 
-  pub feeds_literal : (lits' : List ℕ) (r : Fed) → phase.kind ≡ Literals → FedBy (item_of max_variable t) phase.end cells lits lits' (literal_fed phase.id phase.end) r
+  pub feeds_literal : (lits' : List ℕ) (r : Outcome) → phase.kind ≡ Literals → FedBy (item_of max_variable t) phase.end cells lits lits' (literal_fed phase) r
       → Feeds phase t cells lits hints lits' hints r
   feeds_literal lits' r e fed = literal_feeds lits' r (in_literals_lem e) fed
 
-  -- Nothing is stored yet, neither literals nor hints.
-  none_placed : (x : Midway cells phase t lits hints) → x.stands.new ≡ [] → Placed x.lits₀ x.used [] lits phase.end
-  none_placed x e = subst (λ (l : List ℕ). Placed x.lits₀ x.used l lits phase.end) e x.stands.placed
-
-  none-noted : (x : Midway cells phase t lits hints) → x.stands.told ≡ [] → Placed x.hints₀ 0 [] hints 0
-  none-noted x e = placed_none x.hints₀ x.stands.told hints 0 phase.many e x.stands.noted
-
   -- Behind the id
 
-  in_body : phase.kind ≡ Body → (t ≡ LetterD → ⊥) → (x : Midway cells phase t lits hints)
-      → LiteralsAt cells x.sofar x.token phase.id phase.end x.lits₀ x.used lits x.hints₀ hints
+  in_body : phase.kind ≡ Body → (t ≡ LetterD → ⊥) → (x : Midway cells phase t lits hints) → TakesLiteral x
   in_body e f x =
       let b = stands_begun Body e x in
       record {
@@ -301,7 +293,7 @@ module _ (phase : Phase) (t : Found) (cells : ℕ) (lits hints : List ℕ) where
       }
 
   in_deletion : phase.kind ≡ Body → t ≡ LetterD → (x : Midway cells phase t lits hints)
-      → GoesOn cells x.sofar x.token (phase_of Ids phase.id phase.end 0) x.lits₀ x.used lits x.hints₀ hints
+      → GoesOn cells x.sofar x.token (phase_of Ids phase.id phase.end phase.many) x.lits₀ x.used lits x.hints₀ hints
   in_deletion e q x =
       let b = stands_begun Body e x in
       record {
@@ -310,10 +302,10 @@ module _ (phase : Phase) (t : Found) (cells : ℕ) (lits hints : List ℕ) where
         stands = record { new = []; told = []; is = refl; begun = refl; fit = x.stands.fit; placed = none_placed x b.1; noted = none-noted x b.2; below = tt };
       }
 
-  pub feeds_body : (lits' : List ℕ) (r : Fed) → phase.kind ≡ Body → FedBody phase.id phase.end t cells lits lits' r → Feeds phase t cells lits hints lits' hints r
+  pub feeds_body : (lits' : List ℕ) (r : Outcome) → phase.kind ≡ Body → FedBody phase t cells lits lits' r → Feeds phase t cells lits hints lits' hints r
   feeds_body lits' r e fed = go fed.letter fed.case
     where
-      go : (b : Bool) → BodyCase b phase.id phase.end t cells lits lits' r → Feeds phase t cells lits hints lits' hints r
+      go : (b : Bool) → BodyCase b phase t cells lits lits' r → Feeds phase t cells lits hints lits' hints r
       go true h =
           rw (h.1, h.2) (record {
             case = in_deletion e h.0;
@@ -326,131 +318,108 @@ module _ (phase : Phase) (t : Found) (cells : ℕ) (lits hints : List ℕ) where
   -- The start
 
   module _ (e : phase.kind ≡ Start) where
-    start_goes : 1 ≤ id_within max_id t → (x : Midway cells phase t lits hints)
-        → GoesOn cells x.sofar x.token (phase_of Body (id_within max_id t) phase.end 0) x.lits₀ x.used lits x.hints₀ hints
-    start_goes l x =
+    start_says : (o : Maybe ℕ) → id_within max_id t ≡ o → (x : Midway cells phase t lits hints) → IdTold x.token o
+    start_says o q x = subst (IdTold x.token) (ap (id_within max_id) (sym x.cap) ∙ q) (id_told_by x.token x.proper)
+
+    start_case : (o : Maybe ℕ) → id_within max_id t ≡ o → FeedCase phase t cells lits hints lits hints (start_fed phase o)
+    start_case (Some n) q =
+        λ x.
         let b = stands_begun Start e x in
-        let named : clause_id x.token ≡ some (id_within max_id t) = rw x.cap ((start_told x.token x.proper).0 (rw x.cap at l)) in
+        let say = start_says (Some n) q x in
         record {
-          then = got_id (id_within max_id t);
-          is = leads_from _ _ x (stands_is Start e x) (start_next x.token (id_within max_id t) named);
+          then = got_id n;
+          is = leads_from _ _ x (stands_is Start e x) (start_next x.token n say.0);
+          stands = record { new = []; told = []; is = refl; begun = (say.1, refl, refl); fit = x.stands.fit; placed = none_placed x b.0; noted = none-noted x b.1; below = tt };
+        }
+    start_case None q = ((λ x. leads_from _ _ x (stands_is Start e x) (start_none x.token (start_says None q x))), refl, refl)
+
+    pub feeds_start : (r : Outcome) → FedStart phase t r → Feeds phase t cells lits hints lits hints r
+    feeds_start r fed =
+        record {
+          case = subst (FeedCase phase t cells lits hints lits hints) (sym fed.is) (start_case (id_within max_id t) refl);
+          at_end_lem = λ q. fed.is ∙ rw q;
+          lits_long = refl;
+          hints_long = refl;
+        }
+
+  -- Hints, or ids to delete: `item` reads such tokens, `made` says what is made of one, `of` what a code stands for, and `on`
+  -- and `close` what one more, and their end, make of the step.
+
+  module _ {A : Type 0} (item : Token → Option A) (of : ℕ → A) (made : Found → Item) (tells : (t : Token) → Told item of t (made (capped t)))
+      (below : (code : ℕ) → made t ≡ Num code → code < codes) (ending : t ≡ Nothing → made t ≡ Wrong)
+      (on : Midway cells phase t lits hints → A → Advance) (close : Midway cells phase t lits hints → Advance)
+      (leads : (x : Midway cells phase t lits hints) → advance x.sofar x.token ≡ item_or item (on x) (close x) x.token)
+      (goes : (x : Midway cells phase t lits hints) (code : ℕ) → on x (of code) ≡ goes_on (partial_of phase.kind phase.id x.stands.new (x.stands.told ++ (code ∷ []))))
+      (begun : (x : Midway cells phase t lits hints) (code : ℕ) → Begun phase.kind phase.id x.stands.new (x.stands.told ++ (code ∷ [])))
+      (whole : Fed) (closed : ((x : Midway cells phase t lits hints) → advance x.sofar x.token ≡ close x) → FeedCase phase t cells lits hints lits hints (Ok whole))
+      (hints' : List ℕ) where
+    code-says : (y : Item) → made t ≡ y → (x : Midway cells phase t lits hints) → Told item of x.token y
+    code-says y q x = told_by item of made tells x.token t y x.cap q
+
+    code_stored : (code : ℕ) → made t ≡ Num code → phase.many < length hints → hints' ≡ set hints phase.many code → (x : Midway cells phase t lits hints)
+        → GoesOn cells x.sofar x.token (phase_of phase.kind phase.id phase.end (phase.many + 1)) x.lits₀ x.used lits x.hints₀ hints'
+    code_stored code q room put x =
+        let s = x.stands in
+        record {
+          then = partial_of phase.kind phase.id s.new (s.told ++ (code ∷ []));
+          is = leads x ∙ (item_on item of (on x) (close x) x.token code (code-says (Num code) q x) ∙ goes x code);
           stands = record {
-            new = [];
-            told = [];
+            new = s.new;
+            told = s.told ++ (code ∷ []);
             is = refl;
-            begun = (record { positive = l; within = id_within_lem max_id t }, refl, refl);
-            fit = x.stands.fit;
-            placed = none_placed x b.0;
-            noted = none-noted x b.1;
-            below = tt;
+            begun = begun x code;
+            fit = s.fit;
+            placed = s.placed;
+            noted = placed_on x.hints₀ s.told hints hints' 0 phase.many code (omega arith) s.noted room put;
+            below = s.below;
           };
         }
 
-    start_fails : id_within max_id t ≡ 0 → (x : Midway cells phase t lits hints) → advance x.sofar x.token ≡ unreadable
-    start_fails z x = leads_from _ _ x (stands_is Start e x) (start_none x.token ((start_told x.token x.proper).1 (rw x.cap at z)))
+    code_case : (kept : Kept) → KeepCase (made t) phase.many codes hints hints' kept → FeedCase phase t cells lits hints lits hints' (code_fed phase whole kept)
+    unfolding code_fed
+    code_case (Ok (Some next)) h = rw h.5 (code_stored h.0 h.1 h.3 h.4)
+    code_case (Ok None) h =
+        subst
+        (λ (l : List ℕ). FeedCase phase t cells lits hints lits l (Ok whole))
+        (sym h.1)
+        (closed (λ x. leads x ∙ item_end item of (on x) (close x) x.token (code-says (Ok None) h.0 x)))
+    code_case (Err Unreadable) h = ((λ x. leads x ∙ item_wrong item of (on x) (close x) x.token _ (code-says Wrong h.0 x)), refl, h.1)
+    code_case (Err TooShort) h = ((λ x. ⊎_elim (λ l. absurd (omega (arith, below h.0 h.1, l))) (λ f. inr (inl f)) h.2), refl, h.3)
 
-    start_case : (r : Fed) → StartCase t phase.end r → FeedCase phase t cells lits hints lits hints r
-    start_case (More next) h = rw h.1 (start_goes h.0)
-    start_case (Addition n end many) h = absurd h
-    start_case (Deletion many) h = absurd h
-    start_case Unreadable h = (start_fails h, refl, refl)
-    start_case TooShort h = absurd h
+    code_feeds : (r : Outcome) → FedBy (made t) phase.many codes hints hints' (code_fed phase whole) r → Feeds phase t cells lits hints lits hints' r
+    unfolding code_fed
+    code_feeds r fed = feeds_by _ _ _ hints hints' lits hints' (code_fed phase whole) r fed code_case ending refl refl (keeps_long _ _ _ _ _ _ fed.keeps)
 
-    start_end : (r : Fed) → StartCase t phase.end r → t ≡ Nothing → r ≡ Unreadable
-    start_end (More next) h q = absurd (let l : 1 ≤ id_within max_id Nothing = (rw q at h.0) in omega arith)
-    start_end (Addition n end many) h q = absurd h
-    start_end (Deletion many) h q = absurd h
-    start_end Unreadable h q = refl
-    start_end TooShort h q = absurd h
+  pub feeds_hint : phase.kind ≡ Hints → (hints' : List ℕ) (r : Outcome) (y : Item) → y ≡ item_of max_id t
+      → FedBy y phase.many codes hints hints' (code_fed phase (Addition phase.id phase.end phase.many)) r → Feeds phase t cells lits hints lits hints' r
+  unfolding advance
+  feeds_hint e hints' r y is fed =
+      code_feeds hint hint_of (item_of max_id) hint_told (λ code q. let l = item_below max_id t code q in omega (arith, l)) (λ q. rw q)
+      (λ x h. goes_on (in_hints phase.id (map literal_of x.stands.new) (map hint_of x.stands.told ++ (h ∷ []))))
+      (λ x. ends (add phase.id (map literal_of x.stands.new) (map hint_of x.stands.told)))
+      (λ x. leads_from _ _ x (stands_is Hints e x) refl)
+      (λ x code. ap goes_on (rw e (ap (in_hints phase.id (map literal_of x.stands.new)) (sym (map_more hint_of x.stands.told code)))))
+      (λ x code. rw e (stands_begun Hints e x))
+      (Addition phase.id phase.end phase.many)
+      (λ leads x. record { new = x.stands.new; told = x.stands.told; is = leads x; is_id = stands_begun Hints e x; placed = x.stands.placed; noted = x.stands.noted; below = x.stands.below })
+      hints' r (subst (λ (z : Item). FedBy z phase.many codes hints hints' (code_fed phase (Addition phase.id phase.end phase.many)) r) is fed)
 
-    pub feeds_start : (r : Fed) → FedStart t phase.end r → Feeds phase t cells lits hints lits hints r
-    feeds_start r fed = record { case = start_case r fed.case; at_end_lem = start_end r fed.case; lits_long = refl; hints_long = refl }
-
-  -- One code more in `hints`.
-  noted_on : (k : Kind) (x : Midway cells phase t lits hints) (q : Partial) (code : ℕ) (hints' : List ℕ) → advance x.sofar x.token ≡ goes_on q
-      → q ≡ partial_of k phase.id x.stands.new (x.stands.told ++ (code ∷ [])) → Begun k phase.id x.stands.new (x.stands.told ++ (code ∷ []))
-      → phase.many < length hints → hints' ≡ set hints phase.many code
-      → GoesOn cells x.sofar x.token (phase_of k phase.id phase.end (phase.many + 1)) x.lits₀ x.used lits x.hints₀ hints'
-  noted_on k x q code hints' e is b room put =
-      let s = x.stands in
+  pub feeds_id : phase.kind ≡ Ids → (hints' : List ℕ) (r : Outcome) (y : Item) → y ≡ id_item max_id t
+      → FedBy y phase.many codes hints hints' (code_fed phase (Deletion phase.many)) r → Feeds phase t cells lits hints lits hints' r
+  unfolding advance
+  feeds_id e hints' r y is fed =
+      code_feeds clause_id half (id_item max_id) id_told (λ code q. let l = id_below max_id t code q in omega (arith, l)) (λ q. rw q)
+      (λ x n. goes_on (in_ids (map half x.stands.told ++ (n ∷ []))))
+      (λ x. ends (delete (map half x.stands.told)))
+      (λ x. leads_from _ _ x (stands_is Ids e x) refl)
+      (λ x code. ap goes_on (rw e (ap in_ids (sym (map_more half x.stands.told code)))))
+      (λ x code. rw e (stands_begun Ids e x))
+      (Deletion phase.many)
+      (λ leads x.
       record {
-        then = q;
-        is = e;
-        stands = record {
-          new = s.new;
-          told = s.told ++ (code ∷ []);
-          is = is;
-          begun = b;
-          fit = s.fit;
-          placed = s.placed;
-          noted = placed_on x.hints₀ s.told hints hints' 0 phase.many code (omega arith) s.noted room put;
-          below = s.below;
-        };
-      }
-
-  -- Hints
-
-  module _ (e : phase.kind ≡ Hints) (hints' : List ℕ) where
-    hint-says : (y : Item) → item_of max_id t ≡ y → (x : Midway cells phase t lits hints) → Told hint hint_of x.token y
-    hint-says y q x = told_by hint hint_of (item_of max_id) hint_told x.token t y x.cap q
-
-    hint_case : (kept : Kept) → KeepCase (item_of max_id t) phase.many codes hints hints' kept → FeedCase phase t cells lits hints lits hints' (hint_fed phase.id phase.end phase.many kept)
-    unfolding hint_fed advance
-    hint_case Stored h =
-        λ x.
-        noted_on Hints x (in_hints phase.id (map literal_of x.stands.new) (map hint_of x.stands.told ++ (hint_of h.0 ∷ []))) h.0 hints'
-        (leads_from _ _ x (stands_is Hints e x) (item_on hint hint_of _ _ x.token h.0 (hint-says (Lit h.0) h.1 x)))
-        (ap (in_hints phase.id (map literal_of x.stands.new)) (sym (map_more hint_of x.stands.told h.0)))
-        (stands_begun Hints e x)
-        h.3
-        h.4
-    hint_case Ended h =
-        λ x.
-        record {
-          new = x.stands.new;
-          told = x.stands.told;
-          is = leads_from _ _ x (stands_is Hints e x) (item_end hint hint_of _ _ x.token (hint-says End h.0 x));
-          is_id = stands_begun Hints e x;
-          placed = x.stands.placed;
-          noted = rw h.1 x.stands.noted;
-          below = x.stands.below;
-        }
-    hint_case Refused h = ((λ x. leads_from _ _ x (stands_is Hints e x) (item_wrong hint hint_of _ _ x.token (hint-says Wrong h.0 x))), refl, h.1)
-    hint_case Full h = ((λ x. ⊎_elim (λ l. absurd (omega (arith, item_below max_id t h.0 h.1))) (λ f. inr (inl f)) h.2), refl, h.3)
-
-    pub feeds_hint : (r : Fed) → FedBy (item_of max_id t) phase.many codes hints hints' (hint_fed phase.id phase.end phase.many) r → Feeds phase t cells lits hints lits hints' r
-    unfolding hint_fed
-    feeds_hint r fed =
-        feeds_by _ _ _ hints hints' lits hints' (hint_fed phase.id phase.end phase.many) r fed hint_case (λ q. rw q) refl refl (keeps_long _ _ _ _ _ _ fed.keeps)
-
-  -- Ids to delete
-
-  module _ (e : phase.kind ≡ Ids) (hints' : List ℕ) where
-    id_says : (y : Item) → id_item max_id t ≡ y → (x : Midway cells phase t lits hints) → Told clause_id half x.token y
-    id_says y q x = told_by clause_id half (id_item max_id) id_told x.token t y x.cap q
-
-    id_case : (kept : Kept) → KeepCase (id_item max_id t) phase.many codes hints hints' kept → FeedCase phase t cells lits hints lits hints' (id_fed phase.id phase.end phase.many kept)
-    unfolding id_fed advance
-    id_case Stored h =
-        λ x.
-        noted_on Ids x (in_ids (map half x.stands.told ++ (half h.0 ∷ []))) h.0 hints'
-        (leads_from _ _ x (stands_is Ids e x) (item_on clause_id half _ _ x.token h.0 (id_says (Lit h.0) h.1 x)))
-        (ap in_ids (sym (map_more half x.stands.told h.0)))
-        (stands_begun Ids e x)
-        h.3
-        h.4
-    id_case Ended h =
-        λ x.
-        record {
-          told = x.stands.told;
-          is = leads_from _ _ x (stands_is Ids e x) (item_end clause_id half _ _ x.token (id_says End h.0 x));
-          noted = rw h.1 x.stands.noted;
-          same = placed_same x.lits₀ lits x.used (placed_none x.lits₀ x.stands.new lits x.used phase.end (stands_begun Ids e x) x.stands.placed);
-        }
-    id_case Refused h = ((λ x. leads_from _ _ x (stands_is Ids e x) (item_wrong clause_id half _ _ x.token (id_says Wrong h.0 x))), refl, h.1)
-    id_case Full h = ((λ x. ⊎_elim (λ l. absurd (omega (arith, id_below max_id t h.0 h.1))) (λ f. inr (inl f)) h.2), refl, h.3)
-
-    pub feeds_id : (r : Fed) → FedBy (id_item max_id t) phase.many codes hints hints' (id_fed phase.id phase.end phase.many) r → Feeds phase t cells lits hints lits hints' r
-    unfolding id_fed
-    feeds_id r fed =
-        feeds_by _ _ _ hints hints' lits hints' (id_fed phase.id phase.end phase.many) r fed id_case (λ q. rw q) refl refl (keeps_long _ _ _ _ _ _ fed.keeps)
+        told = x.stands.told;
+        is = leads x;
+        noted = x.stands.noted;
+        same = placed_same x.lits₀ lits x.used (placed_none x.lits₀ x.stands.new lits x.used phase.end (stands_begun Ids e x) x.stands.placed);
+      })
+      hints' r (subst (λ (z : Item). FedBy z phase.many codes hints hints' (code_fed phase (Deletion phase.many)) r) is fed)

@@ -1,4 +1,5 @@
 -- Reading a step from a text: the state of the reader between two tokens, and what a token makes of it. Assumes nothing.
+use Rattle.std.specs.Prelude.{Ok, Err}
 use Rattle.std.proofs.Common.{ℕ, ◌+◌, ◌≤◌, ◌<◌, ◌≡◌, ◌⊎◌, Bool, true, false, List, [], ◌∷◌, ◌++◌, map, ltb, length, drop}
 use Rattle.std.proofs.Common.{refl, sym, ap, subst, ◌∙◌, inl, inr, ⊎_elim, append_assoc, arith, ltb-true, ltb-false, length-append, length-drop, take-append-drop}
 use Rattle.std.proofs.Math.Option.{none}
@@ -11,32 +12,29 @@ use Rattle.text.specs.declared.Token.{Token as Found}
 use Rattle.text.specs.declared.Token.TheVariants.{Nought, Plus, Minus, LetterD, Other, Nothing}
 use Rattle.text.proofs.Tokens.{word_short, blanks_short, scanned_nothing, scanned_token, Next}
 use Rattle.clauses.specs.Codes.{literal_of, hint_of, half}
+use Rattle.formula.specs.declared.Fault.{Fault}
+use Rattle.formula.specs.declared.Fault.TheVariants.{Unreadable, TooShort}
 use Rattle.formula.proofs.Fillings.{placed_length}
 use Rattle.steps.specs.Partials.{at_start, resume, Advance, ends, unreadable, advance, afterwards, taken}
-use Rattle.steps.specs.Feeding.{phase_of, partial_of, Begun, Midway, GoesOn, Adds, Deletes, FeedCase, Feeds}
-use Rattle.steps.specs.Reading.{Reading, BeginsStep, AtEndCase, AtEnd, UnreadCase, Unread, StepNone, StepStopped, LargeIn, StepShort, StepCase, ReadsStep}
+use Rattle.steps.specs.Feeding.{phase_of, partial_of, Begun, Midway, GoesOn, Adds, Deletes, Outcome, FeedCase, Feeds}
+use Rattle.steps.specs.Reading.{Reading, BeginsStep, StepNone, StepStopped, LargeIn, StepShort, stopped_at, ReadsStep}
 use Rattle.steps.specs.declared.feeding.Kind.{Kind}
 use Rattle.steps.specs.declared.feeding.Kind.TheVariants.{Start, Body, Literals, Hints, Ids}
 use Rattle.steps.specs.declared.feeding.Phase.{Phase}
-use Rattle.steps.specs.declared.feeding.Fed.{Fed}
-use Rattle.steps.specs.declared.feeding.Fed.TheVariants.{More, Addition, Deletion, Unreadable, TooShort}
-use Rattle.steps.specs.declared.StepRead.{StepRead}
-use Rattle.steps.specs.declared.StepRead.TheVariants.{Addition as Added, Deletion as Deleted, Nothing as NoStep, Unreadable as Bad, TooShort as Lacking}
+use Rattle.steps.specs.declared.feeding.Fed.TheVariants.{More, Addition, Deletion}
+use Rattle.steps.specs.declared.Step.TheVariants.{Addition as Added, Deletion as Deleted, Nothing as NoStep}
 use Rattle.steps.proofs.Partials.{resume_end, resume-advance, Counted, advance-counted, reach-start, reach_more, resume-reach, reach-taken}
 use Rattle.steps.proofs.Feedings.{placed_none, placed_same}
 
 -- The end of the text
 
-abbrev pub is_nothing : Found → Bool
+abbrev is_nothing : Found → Bool
 is_nothing Nought = false
 is_nothing (Plus v) = false
 is_nothing (Minus v) = false
 is_nothing LetterD = false
 is_nothing Other = false
 is_nothing Nothing = true
-
-pub at_end_not : (t u : Found) → t ≡ u → is_nothing u ≡ false → AtEnd t false
-at_end_not t u e f = record { case = λ q. clash (ap is_nothing (sym e ∙ q)) f }
 
 nothing_cases : {X : Type 0} (t : Found) → (t ≡ Nothing → X) → ((t ≡ Nothing → ⊥) → X) → X
 nothing_cases Nought f g = g (λ q. clash (ap is_nothing q) refl)
@@ -45,16 +43,6 @@ nothing_cases (Minus v) f g = g (λ q. clash (ap is_nothing q) refl)
 nothing_cases LetterD f g = g (λ q. clash (ap is_nothing q) refl)
 nothing_cases Other f g = g (λ q. clash (ap is_nothing q) refl)
 nothing_cases Nothing f g = f refl
-
-module _ (t : Found) (at i next end many : ℕ) (b : Bool) (e : AtEnd t b) where
-  pub unread-token : b ≡ false → Unread t at i next end many (Bad i end many)
-  unread-token q = record { case = (inl (subst (AtEndCase t) q e.case), refl, refl, refl) }
-
-  pub unread_inside : (i ≡ at → ⊥) → Unread t at i next end many (Bad i end many)
-  unread_inside f = record { case = (inr f, refl, refl, refl) }
-
-  pub unread_nothing : b ≡ true → i ≡ at → Unread t at i next end many (NoStep next)
-  unread_nothing q h = record { case = (subst (AtEndCase t) q e.case, h, refl) }
 
 -- More tokens are left than the step has codes so far.
 pub begins_fewer : (ts : List Token) (codes : ℕ) → BeginsStep ts codes → codes + 1 ≤ length ts
@@ -152,14 +140,14 @@ module _ (cells : ℕ) (s : List ℕ) (at used : ℕ) (lits₀ hints₀ lits hin
         within = r.within;
       }
 
-  module _ (t : Found) (n : ℕ) (scan : Scans i (drop i s) t n) (lits' hints' : List ℕ) (fed : Fed) (feeds : Feeds phase t cells lits hints lits' hints' fed) where
+  module _ (t : Found) (n : ℕ) (scan : Scans i (drop i s) t n) (lits' hints' : List ℕ) (fed : Outcome) (feeds : Feeds phase t cells lits hints lits' hints' fed) where
     pub reading_lits : length lits' ≡ length lits₀
     reading_lits = feeds.lits_long ∙ lits_same
 
     pub reading_hints : length hints' ≡ length hints₀
     reading_hints = feeds.hints_long ∙ hints_same
 
-    found_some : (fed ≡ Unreadable → ⊥) → Next s i t n
+    found_some : (fed ≡ Err Unreadable → ⊥) → Next s i t n
     found_some f = scanned_token s i t n scan (λ q. f (feeds.at_end_lem q))
 
     abbrev midway : Next s i t n → Midway cells phase t lits hints
@@ -174,7 +162,7 @@ module _ (cells : ℕ) (s : List ℕ) (at used : ℕ) (lits₀ hints₀ lits hin
     token_counts next a e = subst (Counted (taken r.sofar)) e (advance-counted r.sofar next.tok)
 
     -- More is to be read.
-    module _ (phase' : Phase) (e : fed ≡ More phase') where
+    module _ (phase' : Phase) (e : fed ≡ Ok (More phase')) where
       pub reading_next : Next s i t n
       reading_next = found_some (λ q. let z : ◌≡◌ {A = ℕ} 0 1 = cc in omega arith)
 
@@ -194,7 +182,7 @@ module _ (cells : ℕ) (s : List ℕ) (at used : ℕ) (lits₀ hints₀ lits hin
           }
 
     -- The step is whole.
-    pub reading-added : (m end many : ℕ) → fed ≡ Addition m end many → ReadsStep cells s at used lits₀ hints₀ lits' hints' (Added m end many n)
+    pub reading-added : (m end many : ℕ) → fed ≡ Ok (Addition m end many) → ReadsStep cells s at used lits₀ hints₀ lits' hints' (Ok (Added m end many n))
     unfolding afterwards
     reading-added m end many e =
         let next = found_some (λ q. let z : ◌≡◌ {A = ℕ} 0 1 = cc in omega arith) in
@@ -223,7 +211,7 @@ module _ (cells : ℕ) (s : List ℕ) (at used : ℕ) (lits₀ hints₀ lits hin
           };
         }
 
-    pub reading_deleted : (many : ℕ) → fed ≡ Deletion many → ReadsStep cells s at used lits₀ hints₀ lits' hints' (Deleted many n)
+    pub reading_deleted : (many : ℕ) → fed ≡ Ok (Deletion many) → ReadsStep cells s at used lits₀ hints₀ lits' hints' (Ok (Deleted many n))
     unfolding afterwards
     reading_deleted many e =
         let next = found_some (λ q. let z : ◌≡◌ {A = ℕ} 0 1 = cc in omega arith) in
@@ -241,11 +229,11 @@ module _ (cells : ℕ) (s : List ℕ) (at used : ℕ) (lits₀ hints₀ lits hin
         }
 
     -- A slice is too short.
-    pub reading_short : fed ≡ TooShort → ReadsStep cells s at used lits₀ hints₀ lits' hints' (Lacking i phase.end phase.many)
+    reading_short : fed ≡ Err TooShort → ReadsStep cells s at used lits₀ hints₀ lits' hints' (Err (stopped_at TooShort i phase.end phase.many))
     unfolding stopped
     reading_short e =
         let next = found_some (λ q. let z : ◌≡◌ {A = ℕ} 0 1 = cc in omega arith) in
-        let f : FeedCase phase t cells lits hints lits' hints' TooShort = subst (FeedCase phase t cells lits hints lits' hints') e feeds.case in
+        let f : FeedCase phase t cells lits hints lits' hints' (Err TooShort) = subst (FeedCase phase t cells lits hints lits' hints') e feeds.case in
         record {
           case = record {
             short = ⊎_elim
@@ -281,8 +269,8 @@ module _ (cells : ℕ) (s : List ℕ) (at used : ℕ) (lits₀ hints₀ lits hin
         }
 
     -- The token makes no step.
-    module _ (e : fed ≡ Unreadable) where
-      failed : FeedCase phase t cells lits hints lits' hints' Unreadable
+    module _ (e : fed ≡ Err Unreadable) where
+      failed : FeedCase phase t cells lits hints lits' hints' (Err Unreadable)
       failed = subst (FeedCase phase t cells lits hints lits' hints') e feeds.case
 
       none_left : t ≡ Nothing → tokens (drop i s) ≡ []
@@ -319,12 +307,14 @@ module _ (cells : ℕ) (s : List ℕ) (at used : ℕ) (lits₀ hints₀ lits hin
             within = bounds.1;
           }
 
-      unread_case : (x : StepRead) → UnreadCase t at i n phase.end phase.many x → StepCase cells s at used lits₀ hints₀ lits' hints' x
-      unread_case (Added m end many next) h = absurd h
-      unread_case (Deleted many next) h = absurd h
-      unread_case (NoStep next) h = rw h.2 (nothing_read h.0 h.1)
-      unread_case (Bad stop end many) h = rw (h.1, h.2, h.3) (record { is = no_step; left = some_left h.0; stopped = stopped lits' hints' failed.1 failed.2 })
-      unread_case (Lacking stop end many) h = absurd h
+      -- There is none if the text ends where it was to begin, and else it is unreadable.
+      pub reading_none : t ≡ Nothing → i ≡ at → ReadsStep cells s at used lits₀ hints₀ lits' hints' (Ok (NoStep n))
+      reading_none q h = record { case = nothing_read q h }
 
-      pub reading-unread : (x : StepRead) → Unread t at i n phase.end phase.many x → ReadsStep cells s at used lits₀ hints₀ lits' hints' x
-      reading-unread x u = record { case = unread_case x u.case }
+      reading_bad : (t ≡ Nothing → ⊥) ⊎ (i ≡ at → ⊥) → ReadsStep cells s at used lits₀ hints₀ lits' hints' (Err (stopped_at Unreadable i phase.end phase.many))
+      reading_bad w = record { case = record { is = no_step; left = some_left w; stopped = stopped lits' hints' failed.1 failed.2 } }
+
+    pub reading-stopped : (fault : Fault) → fed ≡ Err fault → (t ≡ Nothing → ⊥) ⊎ (i ≡ at → ⊥)
+        → ReadsStep cells s at used lits₀ hints₀ lits' hints' (Err (stopped_at fault i phase.end phase.many))
+    reading-stopped Unreadable e w = reading_bad e w
+    reading-stopped TooShort e w = reading_short e

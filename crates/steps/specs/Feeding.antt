@@ -1,5 +1,5 @@
 -- What the functions of src/feeding.rt make of a token, in terms of a step that is read in part (`Partial`).
-use Rattle.std.specs.Prelude.{ℕ, ◌+◌, ◌*◌, ◌<◌, ◌≤◌, ◌≡◌, ◌⊎◌, Bool, true, false, List, [], ◌∷◌, ◌++◌, map, leb, length, set}
+use Rattle.std.specs.Prelude.{ℕ, ◌+◌, ◌*◌, ◌<◌, ◌≤◌, ◌≡◌, ◌⊎◌, Bool, true, false, List, [], ◌∷◌, ◌++◌, map, leb, length, set, Option, Some, None, Result, Ok, Err}
 use Rattle.std.proofs.Math.Option.{some}
 use Rattle.meaning.specs.Meaning.{Literal as Lit, Clause, variable}
 use Rattle.rules.specs.Limits.{max_variable, max_id}
@@ -10,48 +10,59 @@ use Rattle.text.specs.declared.Token.{Token as Found}
 use Rattle.text.specs.declared.Token.TheVariants.{Nought, Plus, Minus, LetterD, Other, Nothing}
 use Rattle.clauses.specs.Codes.{literal_of, hint_of, half}
 use Rattle.formula.specs.Body.{item_of, Placed, AllBelow}
-use Rattle.formula.specs.declared.body.Item.{Item}
-use Rattle.formula.specs.declared.body.Item.TheVariants.{Literal, End, Wrong}
+use Rattle.formula.specs.declared.body.NoLiteral.{NoLiteral}
+use Rattle.formula.specs.declared.Fault.{Fault}
+use Rattle.formula.specs.declared.Fault.TheVariants.{Unreadable, TooShort}
 use Rattle.steps.specs.Partials.{Partial, at_start, got_id, in_literals, in_hints, in_ids, goes_on, ends, unreadable, advance}
 use Rattle.steps.specs.declared.feeding.Kind.{Kind}
 use Rattle.steps.specs.declared.feeding.Kind.TheVariants.{Start, Body, Literals, Hints, Ids}
 use Rattle.steps.specs.declared.feeding.Phase.{Phase}
 use Rattle.steps.specs.declared.feeding.Fed.{Fed}
-use Rattle.steps.specs.declared.feeding.Fed.TheVariants.{More, Addition, Deletion, Unreadable, TooShort}
-use Rattle.steps.specs.declared.feeding.Kept.{Kept}
-use Rattle.steps.specs.declared.feeding.Kept.TheVariants.{Stored, Ended, Refused, Full}
+use Rattle.steps.specs.declared.feeding.Fed.TheVariants.{More, Addition, Deletion}
 
--- The id that a token says, or 0 for none.
-abbrev pub id_within : ℕ → Found → ℕ
-id_within m Nought = 0
-id_within m (Plus v) = elim (leb v m) [ true ↦ v | false ↦ 0 ]
-id_within m (Minus v) = 0
-id_within m LetterD = 0
-id_within m Other = 0
-id_within m Nothing = 0
+-- The id that a token says.
+abbrev pub id_within : ℕ → Found → Option ℕ
+id_within m Nought = None
+id_within m (Plus v) = elim (leb 1 v) [ true ↦ elim (leb v m) [ true ↦ Some v | false ↦ None ] | false ↦ None ]
+id_within m (Minus v) = None
+id_within m LetterD = None
+id_within m Other = None
+id_within m Nothing = None
+
+-- A number, the 0 behind the last one, or neither.
+abbrev pub Item : Type 0
+Item = Result (Option ℕ) NoLiteral
 
 -- What a token says among the ids of a deletion.
 abbrev pub id_item : ℕ → Found → Item
-id_item m Nought = End
+id_item m Nought = Ok None
 id_item m (Plus v) = item_of m (Plus v)
-id_item m (Minus v) = Wrong
-id_item m LetterD = Wrong
-id_item m Other = Wrong
-id_item m Nothing = Wrong
+id_item m (Minus v) = Err (record {})
+id_item m LetterD = Err (record {})
+id_item m Other = Err (record {})
+id_item m Nothing = Err (record {})
+
+-- The place behind a number that was stored, nothing for the 0 behind the last number, or why none was stored.
+abbrev pub Kept : Type 0
+Kept = Result (Option ℕ) Fault
 
 -- A number below the limit was stored at its place; or there was none, or it is too large, or there is no place for it, and
 -- nothing was changed.
 abbrev pub KeepCase : Item → ℕ → ℕ → List ℕ → List ℕ → Kept → Type 0
-KeepCase x at limit before after Stored = (code : ℕ) × (x ≡ Literal code) × (code < limit) × (at < length before) × (after ≡ set before at code)
-KeepCase x at limit before after Ended = (x ≡ End) × (after ≡ before)
-KeepCase x at limit before after Refused = (x ≡ Wrong) × (after ≡ before)
-KeepCase x at limit before after Full = (code : ℕ) × (x ≡ Literal code) × ((limit ≤ code) ⊎ (length before ≤ at)) × (after ≡ before)
+KeepCase x at limit before after (Ok (Some next)) = (code : ℕ) × (x ≡ Ok (Some code)) × (code < limit) × (at < length before) × (after ≡ set before at code) × (next ≡ at + 1)
+KeepCase x at limit before after (Ok None) = (x ≡ Ok None) × (after ≡ before)
+KeepCase x at limit before after (Err Unreadable) = (x ≡ Err (record {})) × (after ≡ before)
+KeepCase x at limit before after (Err TooShort) = (code : ℕ) × (x ≡ Ok (Some code)) × ((limit ≤ code) ⊎ (length before ≤ at)) × (after ≡ before)
 
 pub record Keeps (x : Item) (at limit : ℕ) (before after : List ℕ) (r : Kept) : Type 0 where
   pub case : KeepCase x at limit before after r
 
+-- What a token came to.
+abbrev pub Outcome : Type 0
+Outcome = Result Fed Fault
+
 -- What was kept of an item x decides what the token came to.
-pub record FedBy (x : Item) (at limit : ℕ) (before after : List ℕ) (fed : Kept → Fed) (r : Fed) : Type 0 where
+pub record FedBy (x : Item) (at limit : ℕ) (before after : List ℕ) (fed : Kept → Outcome) (r : Outcome) : Type 0 where
   pub kept : Kept
   pub keeps : Keeps x at limit before after kept
   pub is : r ≡ fed kept
@@ -63,52 +74,34 @@ codes = 4_294_967_296
 abbrev pub phase_of : Kind → ℕ → ℕ → ℕ → Phase
 phase_of k n end many = record { kind = k; id = n; end = end; many = many }
 
--- Of a literal, of a hint, of an id to delete.
-unfoldable pub literal_fed : ℕ → ℕ → Kept → Fed
-literal_fed n end Stored = More (phase_of Literals n (end + 1) 0)
-literal_fed n end Ended = More (phase_of Hints n end 0)
-literal_fed n end Refused = Unreadable
-literal_fed n end Full = TooShort
+-- Of a literal.
+unfoldable pub literal_fed : Phase → Kept → Outcome
+literal_fed phase (Ok (Some end)) = Ok (More (phase_of Literals phase.id end phase.many))
+literal_fed phase (Ok None) = Ok (More (phase_of Hints phase.id phase.end phase.many))
+literal_fed phase (Err e) = Err e
 
-unfoldable pub hint_fed : ℕ → ℕ → ℕ → Kept → Fed
-hint_fed n end many Stored = More (phase_of Hints n end (many + 1))
-hint_fed n end many Ended = Addition n end many
-hint_fed n end many Refused = Unreadable
-hint_fed n end many Full = TooShort
-
-unfoldable pub id_fed : ℕ → ℕ → ℕ → Kept → Fed
-id_fed n end many Stored = More (phase_of Ids n end (many + 1))
-id_fed n end many Ended = Deletion many
-id_fed n end many Refused = Unreadable
-id_fed n end many Full = TooShort
+-- Of a hint or an id to delete, where the step is `whole` with the 0 behind the last one.
+unfoldable pub code_fed : Phase → Fed → Kept → Outcome
+code_fed phase whole (Ok (Some many)) = Ok (More (phase_of phase.kind phase.id phase.end many))
+code_fed phase whole (Ok None) = Ok whole
+code_fed phase whole (Err e) = Err e
 
 -- A token where nothing is read.
-abbrev pub StartCase : Found → ℕ → Fed → Type 0
-StartCase t end (More next) = (1 ≤ id_within max_id t) × (next ≡ phase_of Body (id_within max_id t) end 0)
-StartCase t end (Addition n last many) = ⊥
-StartCase t end (Deletion many) = ⊥
-StartCase t end Unreadable = id_within max_id t ≡ 0
-StartCase t end TooShort = ⊥
+abbrev pub start_fed : Phase → Option ℕ → Outcome
+start_fed phase (Some n) = Ok (More (phase_of Body n phase.end phase.many))
+start_fed phase None = Err Unreadable
 
-pub record FedStart (t : Found) (end : ℕ) (r : Fed) : Type 0 where
-  pub case : StartCase t end r
+pub record FedStart (phase : Phase) (t : Found) (r : Outcome) : Type 0 where
+  pub is : r ≡ start_fed phase (id_within max_id t)
 
 -- A token behind the id: the letter d, or the first of the literals.
-abbrev pub BodyCase : Bool → ℕ → ℕ → Found → ℕ → List ℕ → List ℕ → Fed → Type 0
-BodyCase true n end t cells lits lits' r = (t ≡ LetterD) × (r ≡ More (phase_of Ids n end 0)) × (lits' ≡ lits)
-BodyCase false n end t cells lits lits' r = (t ≡ LetterD → ⊥) × FedBy (item_of max_variable t) end cells lits lits' (literal_fed n end) r
+abbrev pub BodyCase : Bool → Phase → Found → ℕ → List ℕ → List ℕ → Outcome → Type 0
+BodyCase true phase t cells lits lits' r = (t ≡ LetterD) × (r ≡ Ok (More (phase_of Ids phase.id phase.end phase.many))) × (lits' ≡ lits)
+BodyCase false phase t cells lits lits' r = (t ≡ LetterD → ⊥) × FedBy (item_of max_variable t) phase.end cells lits lits' (literal_fed phase) r
 
-pub record FedBody (n end : ℕ) (t : Found) (cells : ℕ) (lits lits' : List ℕ) (r : Fed) : Type 0 where
+pub record FedBody (phase : Phase) (t : Found) (cells : ℕ) (lits lits' : List ℕ) (r : Outcome) : Type 0 where
   pub letter : Bool
-  pub case : BodyCase letter n end t cells lits lits' r
-
--- Whether a token is the letter d.
-abbrev pub LetterCase : Found → Bool → Type 0
-LetterCase t true = t ≡ LetterD
-LetterCase t false = t ≡ LetterD → ⊥
-
-pub record Letter (t : Found) (r : Bool) : Type 0 where
-  pub case : LetterCase t r
+  pub case : BodyCase letter phase t cells lits lits' r
 
 -- The number is one that an id may be.
 pub record IsId (n : ℕ) : Type 0 where
@@ -197,21 +190,21 @@ abbrev pub Short : ℕ → Partial → Token → ℕ → List ℕ → ℕ → Li
 Short cells p t end lits many hints = (length lits ≤ end) ⊎ ((length hints ≤ many) ⊎ TooLarge cells p t)
 
 -- What a token comes to, by the answer. Where a step is unreadable or a slice too short, nothing was changed.
-abbrev pub FeedCase : Phase → Found → ℕ → List ℕ → List ℕ → List ℕ → List ℕ → Fed → Type 0
-FeedCase phase t cells lits hints lits' hints' (More next) =
+abbrev pub FeedCase : Phase → Found → ℕ → List ℕ → List ℕ → List ℕ → List ℕ → Outcome → Type 0
+FeedCase phase t cells lits hints lits' hints' (Ok (More next)) =
     (x : Midway cells phase t lits hints) → GoesOn cells x.sofar x.token next x.lits₀ x.used lits' x.hints₀ hints'
-FeedCase phase t cells lits hints lits' hints' (Addition n end many) =
+FeedCase phase t cells lits hints lits' hints' (Ok (Addition n end many)) =
     (x : Midway cells phase t lits hints) → Adds cells x.sofar x.token n end many x.lits₀ x.used lits' x.hints₀ hints'
-FeedCase phase t cells lits hints lits' hints' (Deletion many) =
+FeedCase phase t cells lits hints lits' hints' (Ok (Deletion many)) =
     (x : Midway cells phase t lits hints) → Deletes x.sofar x.token many x.lits₀ lits' x.hints₀ hints'
-FeedCase phase t cells lits hints lits' hints' Unreadable =
+FeedCase phase t cells lits hints lits' hints' (Err Unreadable) =
     ((x : Midway cells phase t lits hints) → advance x.sofar x.token ≡ unreadable) × (lits' ≡ lits) × (hints' ≡ hints)
-FeedCase phase t cells lits hints lits' hints' TooShort =
+FeedCase phase t cells lits hints lits' hints' (Err TooShort) =
     ((x : Midway cells phase t lits hints) → Short cells x.sofar x.token phase.end lits phase.many hints) × (lits' ≡ lits) × (hints' ≡ hints)
 
 -- What `feed` promises. The end of the tokens inside of a step makes it unreadable.
-pub record Feeds (phase : Phase) (t : Found) (cells : ℕ) (lits hints lits' hints' : List ℕ) (r : Fed) : Type 0 where
+pub record Feeds (phase : Phase) (t : Found) (cells : ℕ) (lits hints lits' hints' : List ℕ) (r : Outcome) : Type 0 where
   pub case : FeedCase phase t cells lits hints lits' hints' r
-  pub at_end_lem : t ≡ Nothing → r ≡ Unreadable
+  pub at_end_lem : t ≡ Nothing → r ≡ Err Unreadable
   pub lits_long : length lits' ≡ length lits
   pub hints_long : length hints' ≡ length hints

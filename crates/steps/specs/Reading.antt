@@ -1,38 +1,20 @@
 -- What reading a step from a text comes to, in terms of document 01's `read_step`.
-use Rattle.std.specs.Prelude.{ℕ, ◌+◌, ◌*◌, ◌<◌, ◌≤◌, ◌≡◌, ◌⊎◌, Bool, true, false, List, [], ◌∷◌, ◌++◌, map, length, drop}
+use Rattle.std.specs.Prelude.{ℕ, ◌+◌, ◌*◌, ◌<◌, ◌≤◌, ◌≡◌, ◌⊎◌, List, [], ◌∷◌, ◌++◌, map, length, drop, Result, Ok, Err}
 use Rattle.std.proofs.Math.Option.{none, some}
 use Rattle.rules.specs.Limits.{max_variable, max_id}
 use Rattle.rules.specs.Text.{Token, tokens}
 use Rattle.rules.specs.Steps.{add, delete, read_step}
-use Rattle.text.specs.declared.Token.{Token as Found}
-use Rattle.text.specs.declared.Token.TheVariants.{Nothing}
 use Rattle.clauses.specs.Codes.{literal_of, hint_of, half}
 use Rattle.formula.specs.Body.{Placed, AllBelow}
+use Rattle.formula.specs.declared.Fault.{Fault}
+use Rattle.formula.specs.declared.Fault.TheVariants.{Unreadable, TooShort}
 use Rattle.steps.specs.Partials.{Partial, at_start, reach}
 use Rattle.steps.specs.Feeding.{phase_of, IsId, Stands, NextLiteral}
 use Rattle.steps.specs.declared.feeding.Kind.TheVariants.{Literals, Hints}
 use Rattle.steps.specs.declared.feeding.Phase.{Phase}
-use Rattle.steps.specs.declared.StepRead.{StepRead}
-use Rattle.steps.specs.declared.StepRead.TheVariants.{Addition, Deletion, Nothing as NoStep, Unreadable, TooShort}
-
--- Whether a token is the end of the text.
-abbrev pub AtEndCase : Found → Bool → Type 0
-AtEndCase t true = t ≡ Nothing
-AtEndCase t false = t ≡ Nothing → ⊥
-
-pub record AtEnd (t : Found) (r : Bool) : Type 0 where
-  pub case : AtEndCase t r
-
--- The token at i makes no step: there is none if the text ends where the step was to begin, and else it is unreadable.
-abbrev pub UnreadCase : Found → ℕ → ℕ → ℕ → ℕ → ℕ → StepRead → Type 0
-UnreadCase t at i next end many (Addition n e m x) = ⊥
-UnreadCase t at i next end many (Deletion m x) = ⊥
-UnreadCase t at i next end many (NoStep x) = (t ≡ Nothing) × (i ≡ at) × (x ≡ next)
-UnreadCase t at i next end many (Unreadable x e m) = ((t ≡ Nothing → ⊥) ⊎ (i ≡ at → ⊥)) × (x ≡ i) × (e ≡ end) × (m ≡ many)
-UnreadCase t at i next end many (TooShort x e m) = ⊥
-
-pub record Unread (t : Found) (at i next end many : ℕ) (r : StepRead) : Type 0 where
-  pub case : UnreadCase t at i next end many r
+use Rattle.steps.specs.declared.Step.{Step}
+use Rattle.steps.specs.declared.Step.TheVariants.{Addition, Deletion, Nothing}
+use Rattle.steps.specs.declared.Stopped.{Stopped}
 
 -- Where the reader stands between two tokens: those of `front` are read, and make the part of a step that the phase and the
 -- slices say.
@@ -150,13 +132,20 @@ pub record StepShort (cells : ℕ) (s : List ℕ) (at used : ℕ) (lits hints li
   pub stopped : StepStopped s at used lits hints lits' hints' stop end many
   pub begun : BeginsStep (tokens (drop at s)) (length stopped.new + length stopped.told)
 
--- What reading a step came to, by the answer.
-abbrev pub StepCase : ℕ → List ℕ → ℕ → ℕ → List ℕ → List ℕ → List ℕ → List ℕ → StepRead → Type 0
-StepCase cells s at used lits hints lits' hints' (Addition n end many next) = StepAdded cells s at used lits hints lits' hints' n end many next
-StepCase cells s at used lits hints lits' hints' (Deletion many next) = StepDeleted s at lits hints lits' hints' many next
-StepCase cells s at used lits hints lits' hints' (NoStep next) = StepNone s at lits hints lits' hints' next
-StepCase cells s at used lits hints lits' hints' (Unreadable stop end many) = StepBad s at used lits hints lits' hints' stop end many
-StepCase cells s at used lits hints lits' hints' (TooShort stop end many) = StepShort cells s at used lits hints lits' hints' stop end many
+-- Where reading stopped, and why.
+abbrev pub stopped_at : Fault → ℕ → ℕ → ℕ → Stopped
+stopped_at fault stop end many = record { fault = fault; at = stop; end = end; many = many }
 
-pub record ReadsStep (cells : ℕ) (s : List ℕ) (at used : ℕ) (lits hints lits' hints' : List ℕ) (r : StepRead) : Type 0 where
+-- What reading a step came to, by the answer.
+abbrev pub FaultCase : ℕ → List ℕ → ℕ → ℕ → List ℕ → List ℕ → List ℕ → List ℕ → Fault → ℕ → ℕ → ℕ → Type 0
+FaultCase cells s at used lits hints lits' hints' Unreadable stop end many = StepBad s at used lits hints lits' hints' stop end many
+FaultCase cells s at used lits hints lits' hints' TooShort stop end many = StepShort cells s at used lits hints lits' hints' stop end many
+
+abbrev pub StepCase : ℕ → List ℕ → ℕ → ℕ → List ℕ → List ℕ → List ℕ → List ℕ → Result Step Stopped → Type 0
+StepCase cells s at used lits hints lits' hints' (Ok (Addition n end many next)) = StepAdded cells s at used lits hints lits' hints' n end many next
+StepCase cells s at used lits hints lits' hints' (Ok (Deletion many next)) = StepDeleted s at lits hints lits' hints' many next
+StepCase cells s at used lits hints lits' hints' (Ok (Nothing next)) = StepNone s at lits hints lits' hints' next
+StepCase cells s at used lits hints lits' hints' (Err r) = FaultCase cells s at used lits hints lits' hints' r.fault r.at r.end r.many
+
+pub record ReadsStep (cells : ℕ) (s : List ℕ) (at used : ℕ) (lits hints lits' hints' : List ℕ) (r : Result Step Stopped) : Type 0 where
   pub case : StepCase cells s at used lits hints lits' hints' r

@@ -5,14 +5,22 @@
 // twice the id of a clause to look at, plus 1 where the group of the clause begins; an id to delete as twice the id.
 // There is no loop here. A token that makes the step unreadable, or finds a slice full, changes nothing. What the slices have
 // behind the last code is not promised to mean anything.
-ghost use Rattle.std.specs.Prelude.{◌≡◌, ◌+◌, ◌*◌, ◌<◌, ◌^◌};
+ghost use Rattle.std.specs.Prelude.{◌≡◌};
 ghost use Rattle.rules.specs.Limits.{max_variable, max_id};
 ghost use Rattle.formula.specs.Body.{item_of};
-ghost use Rattle.steps.specs.Feeding.{id_within, id_item, Keeps, codes, FedBy, literal_fed, hint_fed, id_fed, FedStart, Letter, FedBody, Feeds};
+ghost use Rattle.steps.specs.Feeding.{id_within, id_item, Keeps, codes, FedBy, literal_fed, code_fed, FedStart, FedBody, Feeds};
 
-use formula::body;
-use formula::body::Item;
+use formula::body::NoLiteral;
+use formula::{Fault, body};
 use text::Token;
+
+// The greatest variable and the greatest id that a step may name.
+pub(crate) const MAX_VARIABLE: u64 = 16777215;
+
+pub(crate) const MAX_ID: u64 = 268435455;
+
+// The codes of hints and ids are all below this.
+const CODES: usize = 4294967296;
 
 // What is known of a step: nothing; its id; literals; hints; ids to delete.
 #[derive(Clone, Copy)]
@@ -33,201 +41,140 @@ pub struct Phase {
     pub many: usize,
 }
 
-// What a token came to.
+// What a token came to, where the step is readable and there was room: more is to be read, or the step is whole.
 #[derive(Clone, Copy)]
 pub enum Fed {
     More(Phase),
     Addition { id: u64, end: usize, many: usize },
     Deletion { many: usize },
-    Unreadable,
-    TooShort,
 }
 
-// What storing an item came to.
-#[derive(Clone, Copy)]
-pub enum Kept {
-    Stored,
-    Ended,
-    Refused,
-    Full,
-}
-
-// The id that a token says, or 0 for none.
-fn id_within(t: Token) -> u64
+// The id that a token says, if it says one.
+fn id_within(t: Token) -> Option<u64>
     ensures { result ≡ id_within max_id t }
 {
     match t {
-        Token::Nought => 0,
-        Token::Plus(v) => {
-            if 268435455 < v {
-                return 0;
-            }
-            v
-        }
-        Token::Minus(_) => 0,
-        Token::LetterD => 0,
-        Token::Other => 0,
-        Token::Nothing => 0,
+        Token::Plus(v @ 1..=MAX_ID) => Some(v),
+        _ => None,
     }
 }
 
-// An id to delete, the 0 behind the last one, or neither.
-fn id_item(t: Token) -> Item
+// An id to delete, or the 0 behind the last one.
+fn id_item(t: Token) -> Result<Option<u32>, NoLiteral>
     ensures { result ≡ id_item max_id t }
 {
     match t {
-        Token::Nought => Item::End,
-        Token::Plus(_) => body::item_of(t, 268435455),
-        Token::Minus(_) => Item::Wrong,
-        Token::LetterD => Item::Wrong,
-        Token::Other => Item::Wrong,
-        Token::Nothing => Item::Wrong,
+        Token::Minus(_) => Err(NoLiteral),
+        _ => body::item_of(t, MAX_ID),
     }
 }
 
-// A number below `limit` goes to its place.
-fn keep(x: Item, at: usize, limit: usize, slots: &mut [u32]) -> Kept
-    ensures { Keeps x at limit slots.old slots.new result }
+// A number below `limit` goes to its place: the place behind it, or `None` for the 0 behind the last number.
+fn keep(
+    item: Result<Option<u32>, NoLiteral>,
+    at: usize,
+    limit: usize,
+    slots: &mut [u32],
+) -> Result<Option<usize>, Fault>
+    ensures { Keeps item at limit slots.old slots.new result }
 {
-    match x {
-        Item::Literal(code) => {
-            if limit <= clauses::cell(code) {
-                return Kept::Full;
-            }
-            if slots.len() <= at {
-                return Kept::Full;
-            }
-            body::push(slots, at, code);
-            Kept::Stored
+    match item {
+        Ok(Some(code)) if (code as usize) < limit && at < slots.len() => {
+            slots[at] = code;
+            Ok(Some(at + 1))
         }
-        Item::End => Kept::Ended,
-        Item::Wrong => Kept::Refused,
+        Ok(Some(_)) => Err(Fault::TooShort),
+        Ok(None) => Ok(None),
+        Err(NoLiteral) => Err(Fault::Unreadable),
     }
 }
 
-// Where nothing is read: the id.
-fn feed_start(t: Token, end: usize) -> Fed
-    ensures { FedStart t end result }
-{
-    let id = id_within(t);
-    if id == 0 {
-        return Fed::Unreadable;
+impl Phase {
+    // Where nothing is read: the id.
+    fn feed_start(self, t: Token) -> Result<Fed, Fault>
+        ensures { FedStart self t result }
+    {
+        let id = id_within(t).ok_or(Fault::Unreadable)?;
+        Ok(Fed::More(Phase {
+            kind: Kind::Body,
+            id,
+            ..self
+        }))
     }
-    Fed::More(Phase {
-        kind: Kind::Body,
-        id: id,
-        end: end,
-        many: 0,
-    })
-}
 
-// A literal, or the 0 behind the literals.
-fn feed_literal(id: u64, end: usize, t: Token, cells: usize, lits: &mut [u32]) -> Fed
-    ensures { FedBy (item_of max_variable t) end cells lits.old lits.new (literal_fed id end) result }
-{
-    let x = body::item_of(t, 16777215);
-    let kept = keep(x, end, cells, lits);
-    match kept {
-        Kept::Stored => Fed::More(Phase {
-            kind: Kind::Literals,
-            id: id,
-            end: end + 1,
-            many: 0,
-        }),
-        Kept::Ended => Fed::More(Phase {
-            kind: Kind::Hints,
-            id: id,
-            end: end,
-            many: 0,
-        }),
-        Kept::Refused => Fed::Unreadable,
-        Kept::Full => Fed::TooShort,
+    // A literal, or the 0 behind the literals.
+    fn feed_literal(self, t: Token, cells: usize, lits: &mut [u32]) -> Result<Fed, Fault>
+        ensures { FedBy (item_of max_variable t) self.end cells lits.old lits.new (literal_fed self) result }
+    {
+        let item = body::item_of(t, MAX_VARIABLE);
+        let next = match keep(item, self.end, cells, lits)? {
+            Some(end) => Phase {
+                kind: Kind::Literals,
+                end,
+                ..self
+            },
+            None => Phase {
+                kind: Kind::Hints,
+                ..self
+            },
+        };
+        Ok(Fed::More(next))
     }
-}
 
-fn is_letter(t: Token) -> bool
-    ensures { Letter t result }
-{
-    match t {
-        Token::LetterD => true,
-        Token::Nought => false,
-        Token::Plus(_) => false,
-        Token::Minus(_) => false,
-        Token::Other => false,
-        Token::Nothing => false,
+    // Behind the id: the letter d, or the first of the literals.
+    fn feed_body(self, t: Token, cells: usize, lits: &mut [u32]) -> Result<Fed, Fault>
+        ensures { FedBody self t cells lits.old lits.new result }
+    {
+        if t == Token::LetterD {
+            return Ok(Fed::More(Phase {
+                kind: Kind::Ids,
+                ..self
+            }));
+        }
+        self.feed_literal(t, cells, lits)
     }
-}
 
-// Behind the id: the letter d, or the first of the literals.
-fn feed_body(id: u64, end: usize, t: Token, cells: usize, lits: &mut [u32]) -> Fed
-    ensures { FedBody id end t cells lits.old lits.new result }
-{
-    if is_letter(t) {
-        return Fed::More(Phase {
-            kind: Kind::Ids,
-            id: id,
-            end: end,
-            many: 0,
-        });
+    // A hint or an id to delete, or the 0 behind the last one, with which the step is `whole`.
+    fn feed_code(
+        self,
+        item: Result<Option<u32>, NoLiteral>,
+        whole: Fed,
+        hints: &mut [u32],
+    ) -> Result<Fed, Fault>
+        ensures { FedBy item self.many codes hints.old hints.new (code_fed self whole) result }
+    {
+        Ok(match keep(item, self.many, CODES, hints)? {
+            Some(many) => Fed::More(Phase { many, ..self }),
+            None => whole,
+        })
     }
-    feed_literal(id, end, t, cells, lits)
-}
 
-// A hint, or the 0 behind the hints.
-fn feed_hint(id: u64, end: usize, many: usize, t: Token, hints: &mut [u32]) -> Fed
-    ensures { FedBy (item_of max_id t) many codes hints.old hints.new (hint_fed id end many) result }
-{
-    let x = body::item_of(t, 268435455);
-    let kept = keep(x, many, 4294967296, hints);
-    match kept {
-        Kept::Stored => Fed::More(Phase {
-            kind: Kind::Hints,
-            id: id,
-            end: end,
-            many: many + 1,
-        }),
-        Kept::Ended => Fed::Addition {
-            id: id,
-            end: end,
-            many: many,
-        },
-        Kept::Refused => Fed::Unreadable,
-        Kept::Full => Fed::TooShort,
-    }
-}
-
-// An id to delete, or the 0 behind the ids.
-fn feed_id(id: u64, end: usize, many: usize, t: Token, hints: &mut [u32]) -> Fed
-    ensures { FedBy (id_item max_id t) many codes hints.old hints.new (id_fed id end many) result }
-{
-    let x = id_item(t);
-    let kept = keep(x, many, 4294967296, hints);
-    match kept {
-        Kept::Stored => Fed::More(Phase {
-            kind: Kind::Ids,
-            id: id,
-            end: end,
-            many: many + 1,
-        }),
-        Kept::Ended => Fed::Deletion { many: many },
-        Kept::Refused => Fed::Unreadable,
-        Kept::Full => Fed::TooShort,
-    }
-}
-
-// One token more.
-pub fn feed(phase: Phase, t: Token, cells: usize, lits: &mut [u32], hints: &mut [u32]) -> Fed
-    ensures { Feeds phase t cells lits.old hints.old lits.new hints.new result }
-{
-    let kind = phase.kind;
-    let id = phase.id;
-    let end = phase.end;
-    let many = phase.many;
-    match kind {
-        Kind::Start => feed_start(t, end),
-        Kind::Body => feed_body(id, end, t, cells, lits),
-        Kind::Literals => feed_literal(id, end, t, cells, lits),
-        Kind::Hints => feed_hint(id, end, many, t, hints),
-        Kind::Ids => feed_id(id, end, many, t, hints),
+    // One token more.
+    pub fn feed(
+        self,
+        t: Token,
+        cells: usize,
+        lits: &mut [u32],
+        hints: &mut [u32],
+    ) -> Result<Fed, Fault>
+        ensures { Feeds self t cells lits.old hints.old lits.new hints.new result }
+    {
+        let Phase {
+            kind,
+            id,
+            end,
+            many,
+        } = self;
+        match kind {
+            Kind::Start => self.feed_start(t),
+            Kind::Body => self.feed_body(t, cells, lits),
+            Kind::Literals => self.feed_literal(t, cells, lits),
+            Kind::Hints => self.feed_code(
+                body::item_of(t, MAX_ID),
+                Fed::Addition { id, end, many },
+                hints,
+            ),
+            Kind::Ids => self.feed_code(id_item(t), Fed::Deletion { many }, hints),
+        }
     }
 }

@@ -15,14 +15,15 @@
 pub mod feeding;
 
 ghost use Rattle.std.specs.Prelude.{◌≡◌, ◌<◌, ◌≤◌, ◌^◌, length};
-ghost use Rattle.steps.specs.Reading.{AtEnd, Unread, Along, GoesOnward, ReadsStep};
+ghost use Rattle.steps.specs.Reading.{Along, GoesOnward, ReadsStep};
 
-use feeding::{Fed, Kind, Phase};
-use text::Token;
+use feeding::{Fed, Kind, MAX_ID, MAX_VARIABLE, Phase};
+use formula::Fault;
+use text::{Scanned, Token};
 
-// What reading a step came to, and the place behind it; or the place where it stopped, and what had been stored by then.
+// A step that was read, and the place behind it; or that none is left.
 #[derive(Clone, Copy)]
-pub enum StepRead {
+pub enum Step {
     Addition {
         id: u64,
         end: usize,
@@ -36,148 +37,61 @@ pub enum StepRead {
     Nothing {
         next: usize,
     },
-    Unreadable {
-        at: usize,
-        end: usize,
-        many: usize,
-    },
-    TooShort {
-        at: usize,
-        end: usize,
-        many: usize,
-    },
 }
 
-// Whether a token is the end of the text.
-fn at_end(t: Token) -> bool
-    ensures { AtEnd t result }
-{
-    match t {
-        Token::Nothing => true,
-        Token::Nought => false,
-        Token::Plus(_) => false,
-        Token::Minus(_) => false,
-        Token::LetterD => false,
-        Token::Other => false,
-    }
-}
-
-// The token at `i` makes no step of what was read from `at` on.
-fn unread(t: Token, at: usize, i: usize, next: usize, end: usize, many: usize) -> StepRead
-    ensures { Unread t at i next end many result }
-{
-    if !at_end(t) {
-        return StepRead::Unreadable {
-            at: i,
-            end: end,
-            many: many,
-        };
-    }
-    if i != at {
-        return StepRead::Unreadable {
-            at: i,
-            end: end,
-            many: many,
-        };
-    }
-    StepRead::Nothing { next: next }
-}
-
-// How far numbers were taken: the place behind the last one in the text, and in the slice.
+// Why and where reading a step stopped, and what had been stored by then.
 #[derive(Clone, Copy)]
-struct Passed {
-    next: usize,
-    end: usize,
+pub struct Stopped {
+    pub fault: Fault,
+    pub at: usize,
+    pub end: usize,
+    pub many: usize,
 }
 
 // Takes short numbers one after the other from `from` on, as long as their codes are below `limit` and there is room for them
-// in the slice from `first` on. Nearly all tokens of a proof in use are taken here; whatever is not as expected is left to
-// `feed`, which decides.
-fn along(s: &[u8], from: usize, first: usize, limit: u64, slots: &mut [u32]) -> Passed
+// in the slice from `place` on, which is moved behind the last one: the place behind it in the text. Nearly all tokens of a proof
+// in use are taken here; whatever is not as expected is left to `feed`, which decides.
+fn along(s: &[u8], from: usize, limit: u64, slots: &mut [u32], place: &mut usize) -> usize
     requires from_in_bounds { from ≤ length s.now }
     requires limit_bound { limit ≤ 2 ^ 32 }
-    ensures { Along s.now from first limit slots.old slots.new result.next result.end }
+    ensures { Along s.now from place.old limit slots.old slots.new result place.new }
 {
     let mut i = from;
-    let mut end = first;
-    while end < slots.len() {
+    while *place < slots.len() {
         let r = text::short_at(s, i);
-        if r == 0 {
-            return Passed { next: i, end: end };
-        }
         let code = r / 16;
-        if limit <= code {
-            return Passed { next: i, end: end };
+        if r == 0 || limit <= code {
+            break;
         }
-        slots[end] = clauses::narrow(code);
-        end += 1;
-        i += clauses::index(r % 16);
+        slots[*place] = code as u32;
+        *place += 1;
+        i += (r % 16) as usize;
     }
-    Passed { next: i, end: end }
+    i
 }
 
-// Where a reader stands, and at which place.
-#[derive(Clone, Copy)]
-struct Onward {
-    phase: Phase,
-    next: usize,
-}
-
-// A reader that stands at `from` takes the literals or hints that follow there.
+// A reader that stands at `from` takes the literals or hints that follow there: the place behind them.
 fn go_on(
     s: &[u8],
     from: usize,
-    phase: Phase,
     cells: usize,
     lits: &mut [u32],
     hints: &mut [u32],
-) -> Onward
+    phase: &mut Phase,
+) -> usize
     requires { from ≤ length s.now }
-    ensures { GoesOnward cells s.now from phase lits.old hints.old lits.new hints.new result.next result.phase }
+    ensures { GoesOnward cells s.now from phase.old lits.old hints.old lits.new hints.new result phase.new }
 {
-    let kind = phase.kind;
-    match kind {
-        Kind::Start => Onward {
-            phase: phase,
-            next: from,
-        },
-        Kind::Body => Onward {
-            phase: phase,
-            next: from,
-        },
-        Kind::Literals => {
-            let limit = clauses::smaller(clauses::count(cells), 33554432);
-            let p = along(s, from, phase.end, limit, lits);
-            let end = p.end;
-            let now = Phase {
-                kind: Kind::Literals,
-                id: phase.id,
-                end: end,
-                many: phase.many,
-            };
-            Onward {
-                phase: now,
-                next: p.next,
-            }
-        }
-        Kind::Hints => {
-            let p = along(s, from, phase.many, 536870912, hints);
-            let end = p.end;
-            let now = Phase {
-                kind: Kind::Hints,
-                id: phase.id,
-                end: phase.end,
-                many: end,
-            };
-            Onward {
-                phase: now,
-                next: p.next,
-            }
-        }
-        Kind::Ids => Onward {
-            phase: phase,
-            next: from,
-        },
+    match phase.kind {
+        Kind::Start | Kind::Body | Kind::Ids => from,
+        Kind::Literals => along(
+            s,
+            from,
+            (cells as u64).min(2 * MAX_VARIABLE + 2),
+            lits,
+            &mut phase.end,
+        ),
+        Kind::Hints => along(s, from, 2 * MAX_ID + 2, hints, &mut phase.many),
     }
 }
 
@@ -189,7 +103,7 @@ pub fn read_step(
     cells: usize,
     lits: &mut [u32],
     hints: &mut [u32],
-) -> StepRead
+) -> Result<Step, Stopped>
     requires at_in_bounds { at ≤ length s.now }
     requires used_in_bounds { used ≤ length lits.old }
     ensures { ReadsStep cells s.now at used lits.old hints.old lits.new hints.new result }
@@ -202,39 +116,30 @@ pub fn read_step(
         many: 0,
     };
     loop {
-        let r = text::token_at(s, i);
-        let next = r.next;
-        let t = r.token;
-        let fed = feeding::feed(phase, t, cells, lits, hints);
-        match fed {
-            Fed::More(p) => {
-                let on = go_on(s, next, p, cells, lits, hints);
-                phase = on.phase;
-                i = on.next;
+        let Scanned { token, next } = text::token_at(s, i);
+        match phase.feed(token, cells, lits, hints) {
+            Ok(Fed::More(on)) => {
+                phase = on;
+                i = go_on(s, next, cells, lits, hints, &mut phase);
             }
-            Fed::Addition { id, end, many } => {
-                return StepRead::Addition {
-                    id: id,
-                    end: end,
-                    many: many,
-                    next: next,
-                };
-            }
-            Fed::Deletion { many } => {
-                return StepRead::Deletion {
-                    many: many,
-                    next: next,
-                };
-            }
-            Fed::Unreadable => {
-                return unread(t, at, i, next, phase.end, phase.many);
-            }
-            Fed::TooShort => {
-                return StepRead::TooShort {
+            Ok(Fed::Addition { id, end, many }) => return Ok(Step::Addition {
+                id,
+                end,
+                many,
+                next,
+            }),
+            Ok(Fed::Deletion { many }) => return Ok(Step::Deletion { many, next }),
+            Err(fault) => {
+                // A text that ends where a step was to begin has none left.
+                if i == at && token == Token::Nothing {
+                    return Ok(Step::Nothing { next });
+                }
+                return Err(Stopped {
+                    fault,
                     at: i,
                     end: phase.end,
                     many: phase.many,
-                };
+                });
             }
         }
     }

@@ -1,67 +1,43 @@
-use Rattle.std.proofs.Common.{refl, arith}
-use Rattle.steps.proofs.Readings.{reading-start, reading_lits, reading_hints, reading_next, reading_on, reading-added, reading_deleted, reading_short, reading-unread}
+use Rattle.std.proofs.Common.{rules, refl, arith, ap, Ok, ◌∙◌, ◌≡◌, inl, inr}
+use Rattle.steps.proofs.Readings.{reading-start, reading_next, reading_on, reading-added, reading_deleted, reading_none, reading-stopped}
+use Rattle.text.specs.declared.Token.TheVariants.{Nothing}
+use Rattle.steps.proofs.read_step.Goals.{else-i-at-via-then-i-at+else-eq, else-i-at-via-else-i-at}
 use Rattle.steps.proofs.read_step.Goals as goal
 
-pub loop-p-init : goal.loop-p-init
-loop-p-init c = reading-start _ _ _ _ _ _ _ refl c.requires.at_in_bounds c.requires.used_in_bounds
+pub loop-on-init : goal.loop-on-init
+loop-on-init c = reading-start _ _ _ _ _ _ _ refl c.requires.at_in_bounds c.requires.used_in_bounds
 
-pub go_on-on-requires : goal.go_on-on-requires
-go_on-on-requires c =
-    (reading_next _ _ _ _ _ _ _ _ _ _ c.loop-p.invariant _ _ c.token_at-r.ensures _ _ _ c.feed-fed.ensures _ c.in-More.is).within
+pub go_on-i-requires : goal.go_on-i-requires
+go_on-i-requires c = (reading_next _ _ _ _ _ _ _ _ _ _ c.loop-on.invariant _ _ c.token_at-token.ensures _ _ _ c.feed.ensures c.in-Ok-More.on (c.in-Ok-More.is ∙ ap Ok c.in-Ok-More.field-0-is)).within
 
-pub loop-p-smaller : goal.loop-p-smaller
-loop-p-smaller c =
+pub loop-on-smaller : goal.loop-on-smaller
+loop-on-smaller c =
     omega
-    (arith, (reading_next _ _ _ _ _ _ _ _ _ _ c.loop-p.invariant _ _ c.token_at-r.ensures _ _ _ c.feed-fed.ensures _ c.in-More.is).later, c.go_on-on.ensures.later, c.go_on-on.ensures.within)
+    (arith, (reading_next _ _ _ _ _ _ _ _ _ _ c.loop-on.invariant _ _ c.token_at-token.ensures _ _ _ c.feed.ensures _ (c.in-Ok-More.is ∙ ap Ok c.in-Ok-More.field-0-is)).later, c.go_on-i.ensures.later, c.go_on-i.ensures.within)
 
-pub loop-p-preserved : goal.loop-p-preserved
-loop-p-preserved c =
-    c.go_on-on.ensures.on _ _ _ _ (reading_on _ _ _ _ _ _ _ _ _ _ c.loop-p.invariant _ _ c.token_at-r.ensures _ _ _ c.feed-fed.ensures _ c.in-More.is)
+pub loop-on-preserved : goal.loop-on-preserved
+loop-on-preserved c =
+    c.go_on-i.ensures.on _ _ _ _ (reading_on _ _ _ _ _ _ _ _ _ _ c.loop-on.invariant _ _ c.token_at-token.ensures _ _ _ c.feed.ensures _ (c.in-Ok-More.is ∙ rw c.in-Ok-More.field-0-is refl))
 
-pub shape_of-lits-in-Addition : goal.shape_of-lits-in-Addition
-shape_of-lits-in-Addition c =
-    reading_lits _ _ _ _ _ _ _ _ _ _ c.loop-p.invariant _ _ c.token_at-r.ensures _ _ _ c.feed-fed.ensures
+pub returns-in-Ok-Addition : goal.returns-in-Ok-Addition
+returns-in-Ok-Addition c =
+    rw c.in-Ok-Addition.field-0-is
+    (reading-added _ _ _ _ _ _ _ _ _ _ c.loop-on.invariant _ _ c.token_at-token.ensures _ _ _ c.feed.ensures _ _ _ (c.in-Ok-Addition.is ∙ ap Ok c.in-Ok-Addition.field-0-is))
 
-pub shape_of-hints-in-Addition : goal.shape_of-hints-in-Addition
-shape_of-hints-in-Addition c =
-    reading_hints _ _ _ _ _ _ _ _ _ _ c.loop-p.invariant _ _ c.token_at-r.ensures _ _ _ c.feed-fed.ensures
+pub returns-in-Ok-Deletion : goal.returns-in-Ok-Deletion
+returns-in-Ok-Deletion c =
+    rw c.in-Ok-Deletion.field-0-is
+    (reading_deleted _ _ _ _ _ _ _ _ _ _ c.loop-on.invariant _ _ c.token_at-token.ensures _ _ _ c.feed.ensures _ (c.in-Ok-Deletion.is ∙ ap Ok c.in-Ok-Deletion.field-0-is))
 
-pub returns-in-Addition : goal.returns-in-Addition
-returns-in-Addition c =
-    reading-added _ _ _ _ _ _ _ _ _ _ c.loop-p.invariant _ _ c.token_at-r.ensures _ _ _ c.feed-fed.ensures _ _ _ c.in-Addition.is
+pub returns-then-eq : goal.returns-then-eq
+returns-then-eq c =
+    let over : c.token_at-token.result.token ≡ Nothing = search rules in
+    reading_none _ _ _ _ _ _ _ _ _ _ c.loop-on.invariant _ _ c.token_at-token.ensures _ _ _ c.feed.ensures (c.feed.ensures.at_end_lem over) over c.if-i-at.true
 
-pub shape_of-lits-in-Deletion : goal.shape_of-lits-in-Deletion
-shape_of-lits-in-Deletion c =
-    reading_lits _ _ _ _ _ _ _ _ _ _ c.loop-p.invariant _ _ c.token_at-r.ensures _ _ _ c.feed-fed.ensures
-
-pub shape_of-hints-in-Deletion : goal.shape_of-hints-in-Deletion
-shape_of-hints-in-Deletion c =
-    reading_hints _ _ _ _ _ _ _ _ _ _ c.loop-p.invariant _ _ c.token_at-r.ensures _ _ _ c.feed-fed.ensures
-
-pub returns-in-Deletion : goal.returns-in-Deletion
-returns-in-Deletion c =
-    reading_deleted _ _ _ _ _ _ _ _ _ _ c.loop-p.invariant _ _ c.token_at-r.ensures _ _ _ c.feed-fed.ensures _ c.in-Deletion.is
-
-pub shape_of-lits-in-Unreadable : goal.shape_of-lits-in-Unreadable
-shape_of-lits-in-Unreadable c =
-    reading_lits _ _ _ _ _ _ _ _ _ _ c.loop-p.invariant _ _ c.token_at-r.ensures _ _ _ c.feed-fed.ensures
-
-pub shape_of-hints-in-Unreadable : goal.shape_of-hints-in-Unreadable
-shape_of-hints-in-Unreadable c =
-    reading_hints _ _ _ _ _ _ _ _ _ _ c.loop-p.invariant _ _ c.token_at-r.ensures _ _ _ c.feed-fed.ensures
-
-pub returns-in-Unreadable : goal.returns-in-Unreadable
-returns-in-Unreadable c =
-    reading-unread _ _ _ _ _ _ _ _ _ _ c.loop-p.invariant _ _ c.token_at-r.ensures _ _ _ c.feed-fed.ensures c.in-Unreadable.is _ c.unread.ensures
-
-pub shape_of-lits-in-TooShort : goal.shape_of-lits-in-TooShort
-shape_of-lits-in-TooShort c =
-    reading_lits _ _ _ _ _ _ _ _ _ _ c.loop-p.invariant _ _ c.token_at-r.ensures _ _ _ c.feed-fed.ensures
-
-pub shape_of-hints-in-TooShort : goal.shape_of-hints-in-TooShort
-shape_of-hints-in-TooShort c =
-    reading_hints _ _ _ _ _ _ _ _ _ _ c.loop-p.invariant _ _ c.token_at-r.ensures _ _ _ c.feed-fed.ensures
-
-pub returns-in-TooShort : goal.returns-in-TooShort
-returns-in-TooShort c =
-    reading_short _ _ _ _ _ _ _ _ _ _ c.loop-p.invariant _ _ c.token_at-r.ensures _ _ _ c.feed-fed.ensures c.in-TooShort.is
+pub returns-in-Err : goal.returns-in-Err
+returns-in-Err c =
+    reading-stopped _ _ _ _ _ _ _ _ _ _ c.loop-on.invariant _ _ c.token_at-token.ensures _ _ _ c.feed.ensures _ c.in-Err.is
+    (elim c.else-i-at.branch [
+      | else-i-at-via-then-i-at+else-eq w ↦ inl (λ over. search rules)
+      | else-i-at-via-else-i-at w ↦ inr w.if-i-at.false
+    ])

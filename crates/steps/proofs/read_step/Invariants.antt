@@ -4,8 +4,8 @@ use Rattle.std.proofs.Common.{◌-◌, length}
 use Rattle.steps.specs.Reading.{Reading}
 use Rattle.steps.proofs.read_step.Given as goal
 
-abbrev pub invariant-loop-p : goal.invariant-loop-p
-invariant-loop-p l = Reading l.cells l.s l.at l.used l.initial.lits l.initial.hints l.lits l.hints l.i l.phase
+abbrev pub invariant-loop-on : goal.invariant-loop-on
+invariant-loop-on l = Reading l.cells l.s l.at l.used l.initial.lits l.initial.hints l.lits l.hints l.i l.phase
 
-abbrev pub decreases-loop-p : goal.decreases-loop-p
-decreases-loop-p l = length l.s - l.i
+abbrev pub decreases-loop-on : goal.decreases-loop-on
+decreases-loop-on l = length l.s - l.i
