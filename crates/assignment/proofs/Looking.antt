@@ -1,7 +1,10 @@
 -- Laws of looking at a clause: what is kept of the literals that are not false says what the document's definition, which
 -- takes them out first, says. The code keeps it as two numbers, and the laws as a value of `Open`. Assumes nothing.
-use Rattle.std.proofs.Common.{ℕ, zero, suc, ◌+◌, ◌<◌, ◌≤◌, ◌≡◌, true, false, List, [], ◌∷◌, map, eqb, length, get_or, drop}
-use Rattle.std.proofs.Common.{refl, sym, ap, subst, ◌∙◌, ⊎_elim, add-one, arith, eqb-true, eq-eqb, ne_eqb, drop_of_length-le, drop-cons}
+use Rattle.std.proofs.Common.{ℕ, zero, suc, ◌+◌, ◌<◌, ◌≤◌, ◌≡◌, true, false, List, [], ◌∷◌, map, eqb, length, get_or, drop, min, ◌-◌, ◌++◌}
+use Rattle.std.proofs.Common.{refl, sym, ap, subst, ◌∙◌, ⊎_elim, add-one, add-zero, arith, eqb-true, eq-eqb, ne_eqb, drop_of_length-le, drop-cons, add_assoc, get_or-drop, drop-drop, length-drop}
+use Rattle.std.proofs.Math.ListN.{get_or-append}
+use Rattle.std.proofs.Math.Seq.{drop-append_seam}
+use Rattle.std.proofs.lemmas.Int.{clamps}
 use borrow.Author.Tests.{eqb-false}
 use Rattle.meaning.specs.Meaning.{Literal, Clause}
 use Rattle.meaning.proofs.Truth.{bool_cases}
@@ -10,7 +13,7 @@ use Rattle.clauses.specs.Codes.{literal_of, opposite_code}
 use Rattle.clauses.proofs.Literals.{same_literal_lem}
 use Rattle.clauses.proofs.Numbers.{cut}
 use Rattle.assignment.specs.Marks.{mark_of, Shows, Paired, Marked}
-use Rattle.assignment.specs.Sight.{In, ForcedIn, Looks, Counted, Latest, Behind, OneForced, OneLooks}
+use Rattle.assignment.specs.Sight.{In, ForcedIn, Looks, Counted, Latest, OneForced, OneLooks}
 use Rattle.assignment.specs.declared.Look.{Look as Sight}
 use Rattle.assignment.specs.declared.Look.TheVariants.{AllFalse, Forces, Neither}
 use Rattle.assignment.proofs.Marking.{shows_true, shows_untrue, paired_opposite}
@@ -214,23 +217,22 @@ opened_in clause o x mark h new =
     go many h = tt
 
 module _ (clause marks : List ℕ) (others last i : ℕ) (l : Looking clause marks others last i) (known : Marked clause marks) where
-  looking_on : i < length clause → Paired marks → (at : ℕ) → at ≡ get_or clause i 0 → (r last' : ℕ) → Counted last (get_or clause i 0) (get_or marks at 0) r → Latest last (get_or clause i 0) (get_or marks at 0) last'
+  looking_on : i < length clause → Paired marks → (r last' : ℕ) → Counted last (get_or clause i 0) (get_or marks (get_or clause i 0) 0) r → Latest last (get_or clause i 0) (get_or marks (get_or clause i 0) 0) last'
       → Looking clause marks (others + r) last' (i + 1)
   unfolding open_all
-  looking_on more paired at e r last' k m =
+  looking_on more paired r last' k m =
+      let x = get_or clause i 0 in
       let below = known.below i more in
-      let unlike : others ≡ 0 → get_or clause i 0 ≡ last → ⊥ = λ none q. omega (arith, below, paired.small, l.fresh none) in
-      let next = numbers_on others last (get_or clause i 0) (get_or marks at 0) r last' k m unlike in
+      let unlike : others ≡ 0 → x ≡ last → ⊥ = λ none q. omega (arith, below, paired.small, l.fresh none) in
+      let next = numbers_on others last x (get_or marks x 0) r last' k m unlike in
       record {
-        left = λ a s.
-            let mark : get_or marks at 0 ≡ mark_of (among (opposite (literal_of (get_or clause i 0))) a) = rw e (s.at (get_or clause i 0) below) in
-            l.left a s ∙ rw (drop-cons clause i 0 more, ← next, mark, add-one i);
-        held = rw (← next) (opened_in clause (open_of others last) (get_or clause i 0) (get_or marks at 0) l.held (record { place = i; inside = more; is = refl }));
+        left = λ a s. l.left a s ∙ rw (drop-cons clause i 0 more, ← next, s.at x below, add-one i);
+        held = rw (← next) (opened_in clause (open_of others last) x (get_or marks x 0) l.held (record { place = i; inside = more; is = refl }));
         fresh = λ none.
             let before : others ≡ 0 = omega arith in
-            bool_cases (eqb (get_or marks at 0) 0)
-            (λ y. absurd (omega (arith, k.another (eqb-true (get_or marks at 0) 0 y) (unlike before))))
-            (λ n. m.passed (eqb-false (get_or marks at 0) 0 n) ∙ l.fresh before);
+            bool_cases (eqb (get_or marks x 0) 0)
+            (λ y. absurd (omega (arith, k.another (eqb-true (get_or marks x 0) 0 y) (unlike before))))
+            (λ n. m.passed (eqb-false (get_or marks x 0) 0 n) ∙ l.fresh before);
         few = omega (arith, k.few, l.few);
       }
 
@@ -268,39 +270,83 @@ module _ (clause marks : List ℕ) (others last i : ℕ) (l : Looking clause mar
   unfolding concluded
   looking_one end e r k = record { says = λ a s. all end a s ∙ (ap (concluded a) (open_single others last e) ∙ k.says a s); forced = forced_in e r k.forced }
 
-  pub looking_more : length clause ≤ i → (others ≡ 0 → ⊥) → (others ≡ 1 → ⊥) → Looks clause marks Neither
+  pub looking_more : length clause ≤ i → 2 ≤ others → Looks clause marks Neither
   unfolding concluded
-  looking_more end some more = record { says = λ a s. all end a s ∙ ap (concluded a) (open_more others last (omega arith)); forced = tt }
+  looking_more end more = record { says = λ a s. all end a s ∙ ap (concluded a) (open_more others last more); forced = tt }
 
--- One turn: the literal at i, and the one behind it or the same once more.
-pub looking_two : (clause marks : List ℕ) (others last i : ℕ) → Looking clause marks others last i → Marked clause marks → i < length clause → Paired marks → (at : ℕ) → at ≡ get_or clause i
-    0 → (first middle : ℕ) → Counted last (get_or clause i 0) (get_or marks at 0) first → Latest last (get_or clause i 0) (get_or marks at 0) middle
-    → (j : ℕ) → Behind i (length clause) j → (back : ℕ) → back ≡ get_or clause j 0 → (second last' : ℕ) → Counted middle (get_or clause j 0) (get_or marks back 0) second → Latest middle (get_or clause j 0)
-    (get_or marks back 0) last' → Looking clause marks (others + first + second) last' (i + 2)
-looking_two clause marks others last i l known more paired at e first middle k m j b back e' second last' k' m' =
-    let one = looking_on clause marks others last i l known more paired at e first middle k m in
-    let two : i + 1 + 1 ≡ i + 2 = omega arith in
-    rw two at (⊎_elim
-    (λ some. let q : j ≡ i + 1 = b.is_next some in
-    looking_on clause marks (others + first) middle (i + 1) one known some paired back (rw q at e') second last' (rw q at k') (rw q at m'))
-    (λ none. let q : j ≡ i = b.is_last none in
-    let p : back ≡ at = (rw q at e') ∙ sym e in
-    looking_again clause marks (others + first) middle (i + 1) one known none (get_or clause i 0) (get_or marks at 0) last m second last' (rw (q, p) at k') (rw (q, p) at m'))
-    (cut (i + 1) (length clause)))
+-- The pieces of two literals that are left are those of the clause from i on.
+pub record Pairwise (clause marks : List ℕ) (others last : ℕ) (rest : List ℕ) (size i : ℕ) : Type 0 where
+  pub looking : Looking clause marks others last i
+  pub rest-is : rest ≡ drop i clause
+  pub two : size ≡ 2
+
+pub pairs_done : (clause marks : List ℕ) (others last : ℕ) (rest : List ℕ) (size i : ℕ) → Pairwise clause marks others last rest size i → length rest ≡ 0 → length clause ≤ i
+pairs_done clause marks others last rest size i p none = let e : length clause - i ≡ 0 = sym (ap length p.rest-is ∙ length-drop i clause) ∙ none in omega (arith, e)
+
+-- One turn: the literals of a piece, or its only literal twice.
+module _ (clause marks : List ℕ) (others last : ℕ) (rest : List ℕ) (size i : ℕ) (p : Pairwise clause marks others last rest size i) (pair rest' : List ℕ)
+    (cut-off : rest ≡ pair ++ rest') (long : length pair ≡ min size (length rest)) (some : 0 < length rest) where
+  left_over : length rest ≡ length clause - i
+  left_over = ap length p.rest-is ∙ length-drop i clause
+
+  pair_long : length pair ≡ min 2 (length clause - i)
+  pair_long = rw (p.two, left_over) at long
+
+  more_left : i < length clause
+  more_left = omega (arith, left_over, some)
+
+  reads : (k : ℕ) → k < length pair → get_or pair k 0 ≡ get_or clause (i + k) 0
+  reads k h = sym (get_or-append pair rest' 0 k h) ∙ (ap (λ (xs : List ℕ). get_or xs k 0) (sym cut-off ∙ p.rest-is) ∙ get_or-drop i clause k 0)
+
+  pub pair_last : length pair - 1 < length pair
+  pair_last = omega (arith, clamps, pair_long, more_left)
+
+  rest_on : rest' ≡ drop (i + 2) clause
+  rest_on =
+      let behind : rest' ≡ drop (i + length pair) clause =
+      sym (drop-append_seam pair rest') ∙ (ap (drop (length pair)) (sym cut-off ∙ p.rest-is) ∙ drop-drop (length pair) i clause) in
+      ⊎_elim
+      (λ two. let e : length pair ≡ 2 = omega (arith, clamps, pair_long) in behind ∙ ap (λ (n : ℕ). drop (i + n) clause) e)
+      (λ one. behind ∙ (drop_of_length-le clause (omega (arith, clamps, pair_long, more_left)) ∙ sym (drop_of_length-le clause (omega (arith, one)))))
+      (cut (i + 1) (length clause))
+
+  module _ (known : Marked clause marks) where
+    pub pair_inside : (k : ℕ) → k < length pair → get_or pair k 0 < length marks
+    pair_inside k h = rw (reads k h) (known.below (i + k) (omega (arith, clamps, pair_long)))
+
+    pub pair_on : Paired marks → (first middle : ℕ) → Counted last (get_or pair 0 0) (get_or marks (get_or pair 0 0) 0) first → Latest last (get_or pair 0 0) (get_or marks (get_or pair 0 0) 0) middle
+        → (second last' : ℕ) → Counted middle (get_or pair (length pair - 1) 0) (get_or marks (get_or pair (length pair - 1) 0) 0) second
+        → Latest middle (get_or pair (length pair - 1) 0) (get_or marks (get_or pair (length pair - 1) 0) 0) last'
+        → (size' : ℕ) → size' ≡ size → (i' : ℕ) → i' ≡ i + 2 → Pairwise clause marks (others + (first + second)) last' rest' size' i'
+    pair_on paired first middle k m second last' k' m' size' same i' on =
+        let q : get_or pair 0 0 ≡ get_or clause i 0 = rw add-zero at (reads 0 (omega (arith, clamps, pair_long, more_left))) in
+        let one = looking_on clause marks others last i p.looking known more_left paired first middle (rw q at k) (rw q at m) in
+        let both : i + 1 + 1 ≡ i + 2 = omega arith in
+        rw on record {
+          looking = rw (← add_assoc others first second) (rw both at (⊎_elim
+              (λ some.
+              let e : length pair ≡ 2 = omega (arith, clamps, pair_long) in
+              let q' : get_or pair (length pair - 1) 0 ≡ get_or clause (i + 1) 0 = reads (length pair - 1) pair_last ∙ ap (λ (n : ℕ). get_or clause (i + (n - 1)) 0) e in
+              looking_on clause marks (others + first) middle (i + 1) one known some paired second last' (rw q' at k') (rw q' at m'))
+              (λ none.
+              let e : length pair ≡ 1 = omega (arith, clamps, pair_long, more_left) in
+              let q' : get_or pair (length pair - 1) 0 ≡ get_or pair 0 0 = ap (λ (n : ℕ). get_or pair (n - 1) 0) e in
+              looking_again clause marks (others + first) middle (i + 1) one known none (get_or pair 0 0) (get_or marks (get_or pair 0 0) 0) last m second last' (rw q' at k') (rw q' at m'))
+              (cut (i + 1) (length clause))));
+          rest-is = rest_on;
+          two = same ∙ p.two;
+        }
 
 -- One literal alone
 
-module _ (x : ℕ) (marks : List ℕ) (p : Paired marks) (h : x < length marks) (at opp : ℕ) (e : at ≡ opp) (q : opp ≡ opposite_code x) where
-  place : at ≡ opposite_code x
-  place = e ∙ q
+module _ (x : ℕ) (marks : List ℕ) (p : Paired marks) (h : x < length marks) (back : ℕ) (e : back ≡ opposite_code x) where
+  pub one_inside : back < length marks
+  one_inside = rw e (paired_opposite marks p x h)
 
-  pub one_inside : at < length marks
-  one_inside = rw place (paired_opposite marks p x h)
-
-  pub one-true : (get_or marks at 0 ≡ 0 → ⊥) → OneLooks x marks Neither
+  pub one-true : (get_or marks back 0 ≡ 0 → ⊥) → OneLooks x marks Neither
   unfolding look_of without
-  one-true d = record { says = λ a s. rw (shows_true marks a s x (paired_opposite marks p x h) (rw place at d), look_of); forced = tt }
+  one-true d = record { says = λ a s. rw (shows_true marks a s x (paired_opposite marks p x h) (rw e at d), look_of); forced = tt }
 
-  pub one_forced : get_or marks at 0 ≡ 0 → OneLooks x marks (Forces x)
+  pub one_forced : get_or marks back 0 ≡ 0 → OneLooks x marks (Forces x)
   unfolding look_of without
-  one_forced z = record { says = λ a s. rw (shows_untrue marks a s x (paired_opposite marks p x h) (rw place at z), look_of); forced = (refl, rw place at z) }
+  one_forced z = record { says = λ a s. rw (shows_untrue marks a s x (paired_opposite marks p x h) (rw e at z), look_of); forced = (refl, rw e at z) }

@@ -1,7 +1,8 @@
 -- Laws of marks and the tape: what a mark says, what one more mark does, one way after another, and going back. Assumes
 -- nothing.
-use Rattle.std.proofs.Common.{ℕ, ◌+◌, ◌-◌, ◌%◌, ◌<◌, ◌≤◌, ◌≡◌, Bool, true, false, ◌||◌, List, [], ◌∷◌, eqb, length, get_or, set}
+use Rattle.std.proofs.Common.{ℕ, ◌+◌, ◌%◌, ◌<◌, ◌≤◌, ◌≡◌, min, Bool, true, false, ◌||◌, List, [], ◌∷◌, eqb, length, get_or, set}
 use Rattle.std.proofs.Common.{refl, sym, ap, ◌∙◌, ⊎_elim, arith, eqb-true, eq-eqb, ne_eqb, length-set, get_or-set_same, get_or-set_other, ext_get_or}
+use Rattle.std.proofs.lemmas.Int.{clamps}
 use borrow.Author.Tests.{eqb-false}
 use Rattle.meaning.specs.Meaning.{Literal, pos, neg}
 use Rattle.meaning.proofs.Truth.{bool_cases}
@@ -125,13 +126,6 @@ module _ (marks tape : List ℕ) (t x : ℕ) (inside : x < length marks) (room :
     few = omega arith;
   }
 
--- The same, where the number is read through an index.
-pub falsify_known : (marks tape : List ℕ) (t x at : ℕ) → x < length marks → t < length tape → at ≡ x → (get_or marks at 0 ≡ 0 → ⊥) → Falsifies marks tape t x marks tape t
-falsify_known marks tape t x at inside room e d = falsified_before marks tape t x inside room (rw e at d)
-
-pub falsify_open : (marks tape : List ℕ) (t x at : ℕ) → x < length marks → t < length tape → at ≡ x → get_or marks at 0 ≡ 0 → Falsifies marks tape t x (set marks at 1) (set tape t x) (t + 1)
-falsify_open marks tape t x at inside room e free = rw e (falsified_now marks tape t x inside room (rw e at free))
-
 -- One way after another
 
 module _ (m₀ tape₀ : List ℕ) (t₀ : ℕ) (m₁ tape₁ : List ℕ) (t₁ : ℕ) (m₂ tape₂ : List ℕ) (t₂ : ℕ) (f : Laid m₀ tape₀ t₀ m₁ tape₁ t₁) (g : Laid m₁ tape₁ t₁ m₂ tape₂ t₂) where
@@ -178,21 +172,21 @@ laid_undoable m₀ tape₀ t₀ m tape t f = record { before = m₀; differ = f.
 -- Going back
 
 -- The numbers from `from` up to i are taken back.
-pub record Undoing (marks tape : List ℕ) (from to : ℕ) (marks' : List ℕ) (i turns : ℕ) : Type 0 where
+pub record Undoing (marks tape : List ℕ) (from to : ℕ) (marks' : List ℕ) (i : ℕ) : Type 0 where
   pub left : (before : List ℕ) → Differ before marks tape from to → Differ before marks' tape i to
   pub long : length marks' ≡ length marks
-  pub counted : turns ≡ i - from
   pub later : from ≤ i
-  pub so_far : i ≤ to + (from - to)
 
-pub undoing_start : (marks tape : List ℕ) (from to : ℕ) → Undoing marks tape from to marks from 0
-undoing_start marks tape from to = record { left = λ before d. d; long = refl; counted = omega arith; later = omega arith; so_far = omega arith }
+-- Where there are no more than `from` numbers, none is taken back.
+differ_kept : (before marks tape : List ℕ) (from to kept : ℕ) → kept ≡ min from to → Differ before marks tape from to → Differ before marks tape kept to
+differ_kept before marks tape from to kept e d = record {
+  long = d.long;
+  inside = λ i g l. d.inside i (omega (arith, clamps)) l;
+  clear = λ i g l. d.clear i (omega (arith, clamps)) l;
+  others = λ x n. d.others x (λ i g l. n i (omega (arith, clamps)) l);
+}
 
-module _ (marks tape : List ℕ) (from to : ℕ) (marks' : List ℕ) (i turns : ℕ) (u : Undoing marks tape from to marks' i turns) where
-  -- The next number has a mark.
-  pub undoing_inside : Undoable marks tape from to → i < to → get_or tape i 0 < length marks'
-  undoing_inside b h = rw (u.long, b.differ.long) (b.differ.inside i u.later h)
-
+module _ (marks tape : List ℕ) (from to : ℕ) (marks' : List ℕ) (i : ℕ) (u : Undoing marks tape from to marks' i) where
   module _ (x : ℕ) (e : x ≡ get_or tape i 0) (h : i < to) where
     differ_less : (before : List ℕ) → Differ before marks' tape i to → Differ before (set marks' x 0) tape (i + 1) to
     differ_less before d = record {
@@ -209,13 +203,11 @@ module _ (marks tape : List ℕ) (from to : ℕ) (marks' : List ℕ) (i turns : 
           ∙ d.others y (λ j g l p. ⊎_elim (λ now. w (sym p ∙ (ap (λ (k : ℕ). get_or tape k 0) (let same : j ≡ i = omega arith in same) ∙ sym e))) (λ later. n j later l p) (cut j (i + 1))));
     }
 
-    pub undoing_on : Undoing marks tape from to (set marks' x 0) (i + 1) (turns + 1)
+    pub undoing_on : Undoing marks tape from to (set marks' x 0) (i + 1)
     undoing_on = record {
       left = λ before d. differ_less before (u.left before d);
       long = length-set marks' x 0 ∙ u.long;
-      counted = omega (arith, u.counted, u.later);
       later = omega (arith, u.later);
-      so_far = omega arith;
     }
 
   pub undoing_done : to ≤ i → Undone marks tape from to marks'
@@ -226,5 +218,5 @@ module _ (marks tape : List ℕ) (from to : ℕ) (marks' : List ℕ) (i turns : 
         ext_get_or 0 marks' before left.long (λ x l. left.others x (λ j g k q. omega arith));
   }
 
-  pub undoing_turns : to ≤ i → turns ≡ to - from
-  undoing_turns h = omega (arith, u.counted, u.later, u.so_far)
+pub undone_kept : (marks tape : List ℕ) (from to kept : ℕ) (marks' : List ℕ) → kept ≡ min from to → Undone marks tape kept to marks' → Undone marks tape from to marks'
+undone_kept marks tape from to kept marks' e u = record { long = u.long; back = λ before d. u.back before (differ_kept before marks tape from to kept e d) }

@@ -45,12 +45,6 @@ pub record Latest (last x mark r : ℕ) : Type 0 where
   pub taken : mark ≡ 0 → r ≡ x
   pub passed : (mark ≡ 0 → ⊥) → r ≡ last
 
--- The place behind i among n, or i again where there is none.
-pub record Behind (i n r : ℕ) : Type 0 where
-  pub inside : r < n
-  pub is_next : i + 1 < n → r ≡ i + 1
-  pub is_last : n ≤ i + 1 → r ≡ i
-
 -- What is forced, if something is, is this literal, and it is not true yet.
 abbrev pub OneForced : ℕ → List ℕ → Sight → Type 0
 OneForced x marks AllFalse = Unit {0}

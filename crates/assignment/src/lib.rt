@@ -2,9 +2,9 @@
 // specs/Marks.antt says which assignment marks show. Nothing is promised of a tape that is too short: the caller asks first.
 #![tactic(auto)]
 
-ghost use Rattle.std.specs.Prelude.{◌≡◌, ◌-◌, ◌<◌, ◌≤◌, length};
+ghost use Rattle.std.specs.Prelude.{◌≡◌, ◌-◌, ◌<◌, ◌≤◌, min, length};
 ghost use Rattle.assignment.specs.Marks.{Paired, Marked, Falsifies, Undoable, Undone};
-ghost use Rattle.assignment.specs.Sight.{Counted, Latest, Behind, OneLooks, Looks};
+ghost use Rattle.assignment.specs.Sight.{Counted, Latest, OneLooks, Looks};
 
 // The marks, the tape, and how many numbers are on the tape.
 #[derive(Drop)]
@@ -23,43 +23,45 @@ pub enum Look {
     Neither,
 }
 
-// The literal `x` is false from now on; its number goes to the tape, behind the first `t`, unless it was false already.
-pub fn falsify(marks: &mut [u8], tape: &mut [u32], t: usize, x: u32) -> usize
-    requires x_in_bounds { x < length marks.old }
-    requires t_in_bounds { t < length tape.old }
-    ensures { Falsifies marks.old tape.old t x marks.new tape.new result }
-{
-    let at = clauses::cell(x);
-    if marks[at] != 0 {
-        return t;
+impl Assignment<'_> {
+    // The literal `x` is false from now on; its number goes to the tape, unless it was false already.
+    pub fn falsify(&mut self, x: u32)
+        requires x_in_bounds { x < length self.old.marks.now }
+        requires t_in_bounds { self.old.t < length self.old.tape.now }
+        ensures { Falsifies self.old.marks.now self.old.tape.now self.old.t x self.new.marks.now self.new.tape.now self.new.t }
+    {
+        if self.marks[x as usize] != 0 {
+            return;
+        }
+        self.marks[x as usize] = 1;
+        self.tape[self.t] = x;
+        self.t += 1;
     }
-    marks[at] = 1;
-    tape[t] = x;
-    t + 1
-}
 
-// The marks of the numbers on the tape from `from` up to `to` are taken away. Returns the turns.
-pub fn undo(marks: &mut [u8], tape: &[u32], from: usize, to: usize) -> u64
-    requires { Undoable marks.old tape.now from to }
-    ensures { Undone marks.old tape.now from to marks.new × (result ≡ to - from) }
-{
-    let mut i = from;
-    let mut turns: u64 = 0;
-    while i < to {
-        let x = clauses::cell(tape[i]);
-        marks[x] = 0;
-        i += 1;
-        turns += 1;
+    // The marks of the numbers on the tape from `from` on are taken away, and the numbers too; none is, if there are no more than
+    // `from`. Returns the turns.
+    pub fn undo(&mut self, from: usize) -> u64
+        requires { Undoable self.old.marks.now self.old.tape.now from self.old.t }
+        ensures back { Undone self.old.marks.now self.old.tape.now from self.old.t self.new.marks.now }
+        ensures tape { self.new.tape.now ≡ self.old.tape.now }
+        ensures t { self.new.t ≡ min from self.old.t }
+        ensures turns { result ≡ self.old.t - from }
+    {
+        let end = self.t;
+        self.t = usize::min(from, end);
+        for i in self.t..end {
+            let x = self.tape[i];
+            self.marks[x as usize] = 0;
+        }
+        (end - self.t) as u64
     }
-    turns
 }
 
 // 1 if a literal with this mark is not false and is another one than the last that was not, else 0.
 fn counted(last: u32, x: u32, mark: u8) -> usize
     ensures { Counted last x mark result }
 {
-    let one: usize = if x == last { 0 } else { 1 };
-    if mark == 0 { one } else { 0 }
+    (mark == 0 && x != last) as usize
 }
 
 // The last literal that is not false, with one literal more and its mark.
@@ -75,20 +77,12 @@ fn only_one(x: u32, marks: &[u8]) -> Look
     requires x_in_bounds { x < length marks.now }
     ensures { OneLooks x marks.now result }
 {
-    let back = clauses::cell(clauses::opposite(x));
-    if marks[back] != 0 {
-        return Look::Neither;
+    let back = clauses::opposite(x) as usize;
+    if marks[back] == 0 {
+        Look::Forces(x)
+    } else {
+        Look::Neither
     }
-    Look::Forces(x)
-}
-
-// The place behind `i`, or `i` again if that is the last one.
-fn behind(i: usize, n: usize) -> usize
-    requires { i < n }
-    ensures { Behind i n result }
-{
-    let next = i + 1;
-    if next < n { next } else { i }
 }
 
 // Looks at a clause: all its literals are read, one turn for two of them. What is kept is the last literal that is not false, and how
@@ -101,27 +95,19 @@ pub fn look_at(clause: &[u32], marks: &[u8]) -> Look
     ensures { Looks clause.now marks.now result }
 {
     let mut others: usize = 0;
-    let mut last: u32 = 4294967295;
-    let mut i = 0;
-    while i < clause.len() {
-        let x = clause[i];
-        let at = clauses::cell(x);
-        let mark = marks[at];
-        let y = clause[behind(i, clause.len())];
-        let back = clauses::cell(y);
-        let other = marks[back];
-        let first = counted(last, x, mark);
+    let mut last: u32 = u32::MAX;
+    for pair in clause.chunks(2) {
+        let x = pair[0];
+        let y = pair[pair.len() - 1];
+        let mark = marks[x as usize];
+        let other = marks[y as usize];
         let middle = latest(last, x, mark);
-        let second = counted(middle, y, other);
-        others = others + first + second;
+        others += counted(last, x, mark) + counted(middle, y, other);
         last = latest(middle, y, other);
-        i += 2;
     }
-    if others == 0 {
-        return Look::AllFalse;
+    match others {
+        0 => Look::AllFalse,
+        1 => only_one(last, marks),
+        _ => Look::Neither,
     }
-    if others == 1 {
-        return only_one(last, marks);
-    }
-    Look::Neither
 }

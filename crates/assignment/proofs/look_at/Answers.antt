@@ -1,44 +1,43 @@
-use Rattle.std.proofs.Common.{arith}
-use Rattle.assignment.proofs.Looking.{looking_start, looking_two, looking_none, looking_below, looking_one, looking_more}
+use Rattle.std.proofs.Common.{[], ◌∷◌, ap, ◌∙◌, arith, rules, length-append}
+use Rattle.assignment.proofs.Looking.{looking_start, pair_inside, pair_last, pair_on, pairs_done, looking_none, looking_below, looking_one, looking_more}
 use Rattle.assignment.proofs.look_at.Goals as goal
 
-pub loop-i-init : goal.loop-i-init
-loop-i-init c = looking_start _ _
+pub loop-pair-init : goal.loop-pair-init
+loop-pair-init c =
+    record {
+      looking = looking_start _ _;
+      rest-is = ap (λ x. x.rest.now) c.into_iter-pair-iterator.ensures.into_iter_gives ∙ c.chunks-pair-items.ensures.rest;
+      two = ap (λ x. x.size) c.into_iter-pair-iterator.ensures.into_iter_gives ∙ c.chunks-pair-items.ensures.size;
+    }
 
-pub bounds-marks-at : goal.bounds-marks-at
-bounds-marks-at c = rw c.cell-at.ensures (c.requires.marked.below _ c.loop-i-test.true)
+pub bounds-marks-x : goal.bounds-marks-x
+bounds-marks-x c =
+    let s = c.in-Some.ensures.steps in
+    pair_inside _ _ _ _ _ _ _ c.loop-pair.invariant _ _ s.1.0 s.1.1 s.1.2 c.requires.marked 0 (omega (arith, pair_last _ _ _ _ _ _ _ c.loop-pair.invariant _ _ s.1.0 s.1.1 s.1.2))
 
-pub bounds-clause-behind : goal.bounds-clause-behind
-bounds-clause-behind c = c.behind.ensures.inside
+pub bounds-marks-y : goal.bounds-marks-y
+bounds-marks-y c =
+    let s = c.in-Some.ensures.steps in
+    pair_inside _ _ _ _ _ _ _ c.loop-pair.invariant _ _ s.1.0 s.1.1 s.1.2 c.requires.marked _ (pair_last _ _ _ _ _ _ _ c.loop-pair.invariant _ _ s.1.0 s.1.1 s.1.2)
 
-pub bounds-marks-back : goal.bounds-marks-back
-bounds-marks-back c = rw c.cell-back.ensures (c.requires.marked.below _ c.behind.ensures.inside)
+pub loop-pair-preserved : goal.loop-pair-preserved
+loop-pair-preserved c =
+    let s = c.in-Some.ensures.steps in
+    pair_on _ _ _ _ _ _ _ c.loop-pair.invariant _ _ s.1.0 s.1.1 s.1.2 c.requires.marked c.requires.paired _ _ c.counted.ensures c.latest-middle.ensures _ _
+    c.counted-in-loop-pair.ensures c.latest-last.ensures _ s.0 _ (omega (arith, length-append c.loop-pair.yielded (c.in-Some.pair ∷ [])))
 
-pub overflow_add-others : goal.overflow_add-others
-overflow_add-others c =
-    omega (arith, c.counted-first.ensures.few, c.loop-i.invariant.few, c.loop-i-test.true)
+pub only_one-requires-clause-x_in_bounds : goal.only_one-requires-clause-x_in_bounds
+only_one-requires-clause-x_in_bounds c = looking_below _ _ _ _ _ c.loop-pair.invariant.looking c.requires.marked c.in-1.is
 
-pub overflow_add-others-in-loop-i : goal.overflow_add-others-in-loop-i
-overflow_add-others-in-loop-i c =
-    omega (arith, c.counted-first.ensures.few, c.counted-second.ensures.few, c.loop-i.invariant.few, c.loop-i-test.true)
+pub returns-in-0 : goal.returns-in-0
+returns-in-0 c =
+    looking_none _ _ _ _ _ c.loop-pair.invariant.looking c.requires.marked (pairs_done _ _ _ _ _ _ _ c.loop-pair.invariant c.in-None.ensures.steps.1.0) c.in-0.is
 
-pub loop-i-smaller : goal.loop-i-smaller
-loop-i-smaller c = omega (arith, c.loop-i-test.true)
+pub returns-in-1 : goal.returns-in-1
+returns-in-1 c =
+    looking_one _ _ _ _ _ c.loop-pair.invariant.looking c.requires.marked (pairs_done _ _ _ _ _ _ _ c.loop-pair.invariant c.in-None.ensures.steps.1.0) c.in-1.is _
+    c.only_one.ensures
 
-pub loop-i-preserved : goal.loop-i-preserved
-loop-i-preserved c =
-    looking_two _ _ _ _ _ c.loop-i.invariant c.requires.marked c.loop-i-test.true c.requires.paired _ c.cell-at.ensures _ _ c.counted-first.ensures
-    c.latest-middle.ensures _ c.behind.ensures _ c.cell-back.ensures _ _ c.counted-second.ensures c.latest-last.ensures
-
-pub returns-then-others-eq0 : goal.returns-then-others-eq0
-returns-then-others-eq0 c = looking_none _ _ _ _ _ c.loop-i.invariant c.requires.marked c.loop-i-test.false c.if-others-eq0.true
-
-pub only_one-requires : goal.only_one-requires
-only_one-requires c = record { paired = c.requires.paired; x_in_bounds = looking_below _ _ _ _ _ c.loop-i.invariant c.requires.marked c.if-others-eq1.true }
-
-pub returns-then-others-eq1 : goal.returns-then-others-eq1
-returns-then-others-eq1 c =
-    looking_one _ _ _ _ _ c.loop-i.invariant c.requires.marked c.loop-i-test.false c.if-others-eq1.true _ c.only_one.ensures
-
-pub returns : goal.returns
-returns c = looking_more _ _ _ _ _ c.loop-i.invariant c.requires.marked c.loop-i-test.false c.if-others-eq0.false c.if-others-eq1.false
+pub returns-in_default : goal.returns-in_default
+returns-in_default c =
+    looking_more _ _ _ _ _ c.loop-pair.invariant.looking c.requires.marked (pairs_done _ _ _ _ _ _ _ c.loop-pair.invariant c.in-None.ensures.steps.1.0) (search rules)

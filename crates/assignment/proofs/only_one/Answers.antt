@@ -3,10 +3,10 @@ use Rattle.assignment.proofs.Looking.{one_inside, one-true, one_forced}
 use Rattle.assignment.proofs.only_one.Goals as goal
 
 pub bounds-marks-back : goal.bounds-marks-back
-bounds-marks-back c = one_inside _ _ c.requires.paired c.requires.x_in_bounds _ _ c.cell-back.ensures c.opposite.ensures
+bounds-marks-back c = one_inside _ _ c.requires.paired c.requires.x_in_bounds _ c.opposite-back.ensures
 
-pub returns-then-marks-back-ne0 : goal.returns-then-marks-back-ne0
-returns-then-marks-back-ne0 c = one-true _ _ c.requires.paired c.requires.x_in_bounds _ _ c.cell-back.ensures c.opposite.ensures c.if-marks-back-ne0.true
+pub returns-then-marks-back-eq0 : goal.returns-then-marks-back-eq0
+returns-then-marks-back-eq0 c = one_forced _ _ c.requires.paired c.requires.x_in_bounds _ c.opposite-back.ensures c.if-marks-back-eq0.true
 
-pub returns : goal.returns
-returns c = one_forced _ _ c.requires.paired c.requires.x_in_bounds _ _ c.cell-back.ensures c.opposite.ensures c.if-marks-back-ne0.false
+pub returns-else-marks-back-eq0 : goal.returns-else-marks-back-eq0
+returns-else-marks-back-eq0 c = one-true _ _ c.requires.paired c.requires.x_in_bounds _ c.opposite-back.ensures c.if-marks-back-eq0.false
