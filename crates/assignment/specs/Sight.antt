@@ -1,5 +1,5 @@
 -- What one look at a clause shows, in terms of document 01's rule 3 (rules' Judging).
-use Rattle.std.specs.Prelude.{ℕ, ◌+◌, ◌<◌, ◌≤◌, ◌≡◌, List, [], ◌∷◌, map, length, get_or}
+use Rattle.std.specs.Prelude.{ℕ, ◌<◌, ◌≤◌, ◌≡◌, List, [], ◌∷◌, map, length, get_or}
 use Rattle.rules.specs.Judging.{Trail, Look, all_false, forces, neither, look_of, look_at}
 use Rattle.clauses.specs.Codes.{literal_of, opposite_code}
 use Rattle.assignment.specs.Marks.{Shows}
