@@ -1,5 +1,5 @@
 -- Reading clauses one after the other into the store: the state between two clauses. Assumes nothing.
-use Rattle.std.proofs.Common.{ℕ, zero, suc, ◌+◌, ◌*◌, ◌-◌, ◌≤◌, ◌<◌, ◌≡◌, Bool, true, false, List, [], ◌∷◌, ◌++◌, map, ltb, length, take, drop, get_or}
+use Rattle.std.proofs.Common.{ℕ, zero, suc, ◌+◌, ◌*◌, ◌-◌, ◌≤◌, ◌<◌, ◌≡◌, List, [], ◌∷◌, ◌++◌, map, ltb, length, take, drop, get_or}
 use Rattle.std.proofs.Common.{refl, sym, ap, subst, ◌∙◌, inl, inr, append_assoc, append-nil, arith, ltb-true, ltb-false, length-append, length-drop, get_or-take, take_at, drop_at, length-take-le, get_or-append-add}
 use Rattle.std.proofs.Math.Option.{Option, none, some}
 use Rattle.std.proofs.Math.ListN.{length-map, get_or-append}
@@ -15,9 +15,12 @@ use Rattle.clauses.specs.Codes.{literal_of}
 use Rattle.clauses.specs.Store.{written, Holds}
 use Rattle.clauses.proofs.Heads.{written-long}
 use Rattle.clauses.proofs.Holding.{holds-append, holds_literals, numbered_more}
-use Rattle.formula.specs.Body.{Placed, AllBelow, ClauseDone, ClauseBad, ClauseLong, ClauseCase, ReadsClause, CloseCase, Closes, BodyDone, BodyBad, BodyLong}
-use Rattle.formula.specs.declared.body.ClauseRead.{ClauseRead}
-use Rattle.formula.specs.declared.body.ClauseRead.TheVariants.{Done, Unreadable, TooShort}
+use Rattle.std.specs.Prelude.{Result, Ok, Err}
+use Rattle.formula.specs.Body.{Placed, AllBelow, ClauseDone, ClauseStopped, ReadsClause, Closes, BodyDone, BodyStopped, ReadsBody}
+use Rattle.formula.specs.declared.body.Progress.{Progress}
+use Rattle.formula.specs.declared.Fault.{Fault}
+use Rattle.formula.specs.declared.Fault.TheVariants.{Unreadable, TooShort}
+use Rattle.formula.specs.declared.Stopped.{Stopped}
 
 -- What was placed
 
@@ -135,23 +138,19 @@ module _ (v c : ℕ) (s : List ℕ) (at : ℕ) (heads₀ lits₀ heads lits : Li
         within = f.within;
       }
 
-  module _ (more : k < c) (lits' : List ℕ) (next end : ℕ) where
+  module _ (more : k < c) (lits' : List ℕ) where
     one_more : c - k ≡ suc (c - (k + 1))
     one_more = omega arith
 
-    pub filling_bad : (r : ClauseRead) → ReadsClause v s i lits used lits' r → r ≡ Unreadable next end → BodyBad v c s at next end k
-    filling_bad r h e =
-        let b : ClauseBad v s i lits used lits' next end = subst (ClauseCase v s i lits used lits') e h.case in
+    stopped : (why : Fault) (next end closed : ℕ) → ClauseStopped v s i lits used lits' next end why → closed ≡ k → BodyStopped v c s at heads₀ lits₀ next end closed why
+    stopped Unreadable next end closed b q =
         record {
           is = f.left ∙ rw one_more (afore_bad v (c - (k + 1)) (tokens (drop i s)) f.clauses b.is);
           few = omega (arith, f.few, b.few, b.placed.count);
           later = omega (arith, f.later, b.later);
           within = b.within;
         }
-
-    pub filling_long : (r : ClauseRead) → ReadsClause v s i lits used lits' r → r ≡ TooShort next end → BodyLong s at heads₀ lits₀ next end k
-    filling_long r h e =
-        let b : ClauseLong v s i lits used lits' next end = subst (ClauseCase v s i lits used lits') e h.case in
+    stopped TooShort next end closed b q =
         record {
           short = inl (omega (arith, b.short, f.few, f.lits_long));
           few = omega (arith, f.few, b.few, b.placed.count);
@@ -159,57 +158,62 @@ module _ (v c : ℕ) (s : List ℕ) (at : ℕ) (heads₀ lits₀ heads lits : Li
           within = b.within;
         }
 
-    module _ (r : ClauseRead) (h : ReadsClause v s i lits used lits' r) (e : r ≡ Done next end) where
-      done : ClauseDone v s i lits used lits' next end
-      done = subst (ClauseCase v s i lits used lits') e h.case
+    pub filling_stop : (heads' : List ℕ) (stop : Stopped) → ReadsClause v s i lits used k lits' (Err stop) → ReadsBody v c s at heads₀ lits₀ heads' lits' (Err stop)
+    filling_stop heads' stop h = record { case = stopped stop.fault stop.at stop.used stop.closed h.case.0 h.case.1 }
+
+    module _ (p : Progress) (h : ReadsClause v s i lits used k lits' (Ok p)) where
+      done : ClauseDone v s i lits used lits' p.next p.used
+      done = h.case
 
       fit : used ≤ length lits
       fit = f.holds.store.fits
 
       -- The clause took a token for each literal and one for its 0.
-      fewer : length (tokens (drop next s)) + suc (length done.new) ≡ length (tokens (drop i s))
+      fewer : length (tokens (drop p.next s)) + suc (length done.new) ≡ length (tokens (drop i s))
       fewer =
-          let count = items-count (literal v) (tokens (drop i s)) (map literal_of done.new, tokens (drop next s)) done.is in
+          let count = items-count (literal v) (tokens (drop i s)) (map literal_of done.new, tokens (drop p.next s)) done.is in
           omega (arith, count, length-map done.new literal_of)
 
-      pub filling_full : (heads' : List ℕ) (b : Bool) → Closes heads k end heads' b → b ≡ false → BodyLong s at heads₀ lits₀ next end k
-      filling_full heads' b cl q =
-          let full : CloseCase heads k end heads' false = subst (CloseCase heads k end heads') q cl.case in
-          record {
-            short = inr (omega (arith, full.0, f.few, f.heads_long, fewer));
-            few = omega (arith, f.few, fewer, done.placed.count);
-            later = omega (arith, f.later, done.later);
-            within = done.within;
-          }
+      pub filling_full : (heads' : List ℕ) (stop : Stopped) → Closes heads k p heads' (Err stop) → ReadsBody v c s at heads₀ lits₀ heads' lits' (Err stop)
+      filling_full heads' stop cl =
+          rw cl.case.2
+          (record {
+            case = record {
+              short = inr (omega (arith, cl.case.0, f.few, f.heads_long, fewer));
+              few = omega (arith, f.few, fewer, done.placed.count);
+              later = omega (arith, f.later, done.later);
+              within = done.within;
+            };
+          })
 
       -- The store with the literals of the clause behind the others.
       holds_lits : Holds heads lits' k used k (numbered 0 f.clauses)
       holds_lits =
           holds_literals heads lits k used k (numbered 0 f.clauses) f.holds lits'
-          (placed_front lits used done.new lits' end fit done.placed)
-          (placed_length lits used done.new lits' end fit done.placed)
+          (placed_front lits used done.new lits' p.used fit done.placed)
+          (placed_length lits used done.new lits' p.used fit done.placed)
 
       abbrev clause : Clause
       clause = map literal_of done.new
 
-      pub filling_on : (heads' : List ℕ) (b : Bool) → Closes heads k end heads' b → b ≡ true → Filling v c s at heads₀ lits₀ heads' lits' next end (k + 1)
-      filling_on heads' b cl q =
-          let closed : CloseCase heads k end heads' true = subst (CloseCase heads k end heads') q cl.case in
-          let long = placed_length lits used done.new lits' end fit done.placed in
-          let held = holds-append heads lits' k used k (numbered 0 f.clauses) holds_lits (k + 1) end (omega arith) (omega (arith, done.placed.count)) (omega (arith, long, done.placed.room)) closed.0 in
+      pub filling_on : (heads' : List ℕ) → Closes heads k p heads' (Ok tt) → Filling v c s at heads₀ lits₀ heads' lits' p.next p.used (k + 1)
+      filling_on heads' cl =
+          let closed = cl.case in
+          let long = placed_length lits used done.new lits' p.used fit done.placed in
+          let held = holds-append heads lits' k used k (numbered 0 f.clauses) holds_lits (k + 1) p.used (omega arith) (omega (arith, done.placed.count)) (omega (arith, long, done.placed.room)) closed.0 in
           let id : suc (0 + length f.clauses) ≡ k + 1 = omega (arith, f.many) in
-          let live : numbered 0 f.clauses ++ ((k + 1, map literal_of (slice used end lits')) ∷ []) ≡ numbered 0 (f.clauses ++ (clause ∷ [])) =
-          ap (λ (l : List ℕ). numbered 0 f.clauses ++ ((k + 1, map literal_of l) ∷ [])) (placed_slice lits used done.new lits' end fit done.placed)
+          let live : numbered 0 f.clauses ++ ((k + 1, map literal_of (slice used p.used lits')) ∷ []) ≡ numbered 0 (f.clauses ++ (clause ∷ [])) =
+          ap (λ (l : List ℕ). numbered 0 f.clauses ++ ((k + 1, map literal_of l) ∷ [])) (placed_slice lits used done.new lits' p.used fit done.placed)
           ∙ ap (λ (n : ℕ). numbered 0 f.clauses ++ ((n, clause) ∷ [])) (sym id)
           ∙ sym (numbered_more 0 f.clauses clause) in
           record {
             clauses = f.clauses ++ (clause ∷ []);
             many = rw length-append (omega (arith, f.many));
-            holds = rw closed.1 (subst (Holds (written heads k (2 * (k + 1)) end) lits' (k + 1) end (k + 1)) live held);
-            below = placed_below lits used done.new lits' end fit done.placed (2 * v + 2) done.below f.below;
-            left = f.left ∙ rw one_more (afore_more v (c - (k + 1)) (tokens (drop i s)) (tokens (drop next s)) f.clauses clause done.is);
+            holds = rw closed.1 (subst (Holds (written heads k (2 * (k + 1)) p.used) lits' (k + 1) p.used (k + 1)) live held);
+            below = placed_below lits used done.new lits' p.used fit done.placed (2 * v + 2) done.below f.below;
+            left = f.left ∙ rw one_more (afore_more v (c - (k + 1)) (tokens (drop i s)) (tokens (drop p.next s)) f.clauses clause done.is);
             few = omega (arith, f.few, fewer, done.placed.count);
-            heads_long = rw (closed.1, written-long heads k (2 * (k + 1)) end) f.heads_long;
+            heads_long = rw (closed.1, written-long heads k (2 * (k + 1)) p.used) f.heads_long;
             lits_long = long ∙ f.lits_long;
             later = omega (arith, f.later, done.later);
             within = done.within;
@@ -218,11 +222,15 @@ module _ (v c : ℕ) (s : List ℕ) (at : ℕ) (heads₀ lits₀ heads lits : Li
 
 -- Lengths stay.
 
-pub reads-long : (v : ℕ) (s : List ℕ) (at : ℕ) (before : List ℕ) (used : ℕ) (after : List ℕ) (r : ClauseRead) → used ≤ length before → ReadsClause v s at before used after r → length after ≡ length before
-reads-long v s at before used after (Done next end) h r = placed_length before used r.case.new after end h r.case.placed
-reads-long v s at before used after (Unreadable next end) h r = placed_length before used r.case.new after end h r.case.placed
-reads-long v s at before used after (TooShort next end) h r = placed_length before used r.case.new after end h r.case.placed
+pub reads-long : (v : ℕ) (s : List ℕ) (at : ℕ) (before : List ℕ) (used k : ℕ) (after : List ℕ) (r : Result Progress Stopped) → used ≤ length before
+    → ReadsClause v s at before used k after r → length after ≡ length before
+reads-long v s at before used k after (Ok done) h r = placed_length before used r.case.new after done.used h r.case.placed
+reads-long v s at before used k after (Err stop) h r = go stop.fault r.case.0
+  where
+    go : (why : Fault) → ClauseStopped v s at before used after stop.at stop.used why → length after ≡ length before
+    go Unreadable b = placed_length before used b.new after stop.used h b.placed
+    go TooShort b = placed_length before used b.new after stop.used h b.placed
 
-pub closes_long : (before : List ℕ) (k end : ℕ) (after : List ℕ) (b : Bool) → Closes before k end after b → length after ≡ length before
-closes_long before k end after true r = rw (r.case.1, written-long before k (2 * (k + 1)) end)
-closes_long before k end after false r = rw r.case.1
+pub closes_long : (before : List ℕ) (k : ℕ) (clause : Progress) (after : List ℕ) (r : Result (Unit {0}) Stopped) → Closes before k clause after r → length after ≡ length before
+closes_long before k clause after (Ok done) r = rw (r.case.1, written-long before k (2 * (k + 1)) clause.used)
+closes_long before k clause after (Err stop) r = rw r.case.1

@@ -1,33 +1,63 @@
 -- Comment lines, and the first place of a byte: laws for the loops of src/opening.rt. Assumes nothing.
-use Rattle.std.proofs.Common.{ℕ, ◌+◌, ◌≤◌, ◌<◌, ◌≡◌, true, false, List, [], ◌∷◌, ◌++◌, length, take, drop, get_or}
-use Rattle.std.proofs.Common.{refl, ap, ◌∙◌, append_assoc, append-nil, add-one, arith, eq-eqb, ne_eqb, drop_of_length-le, drop-cons, take-suc, length-take-le}
-use Rattle.std.proofs.Math.Seq.{slice, slice_empty, drop-append-le}
+use Rattle.std.proofs.Common.{ℕ, zero, suc, ◌+◌, ◌-◌, ◌≤◌, ◌<◌, ◌≡◌, ◌≢◌, min, true, false, List, [], ◌∷◌, eqb, ltb, length, take, drop, get_or}
+use Rattle.std.proofs.Common.{refl, sym, ap, ◌∙◌, add-one, arith, eq-eqb, ne_eqb, ltb-true, ltb-false, length-drop, drop-drop, drop_of_length-le, drop-cons}
+use Rattle.std.proofs.Math.Seq.{slice}
+use Rattle.meaning.proofs.Truth.{bool_cases}
 use Rattle.rules.specs.Formula.{after_comments, before, behind}
-use Rattle.formula.specs.Opening.{AfterLine, AfterComments, FirstAt}
+use Rattle.clauses.proofs.Parts.{part_rest, part_slice}
+use Rattle.formula.specs.Opening.{AfterLine, AfterComments, FirstOf, FirstAt, Behind}
+
+-- The first place of a byte
+
+pub first_of : (x : ℕ) (s : List ℕ) (r : ℕ) → r ≤ length s → ((k : ℕ) → k < r → get_or s k 0 ≢ x) → (r < length s → get_or s r 0 ≡ x) → FirstOf x s r
+unfolding before behind
+first_of x [] zero h f e = record { is_before = refl; is_behind = refl; within = omega arith }
+first_of x [] (suc r) h f e = absurd (omega arith)
+first_of x (b ∷ s) zero h f e = let test = eq-eqb b x (e (omega arith)) in record { is_before = rw (test, before); is_behind = rw (test, behind); within = omega arith }
+first_of x (b ∷ s) (suc r) h f e =
+    let test = ne_eqb b x (f 0 (omega arith)) in
+    let rest = first_of x s r (omega arith) (λ k l. f (suc k) (omega arith)) (λ l. e (omega arith)) in
+    record {
+      is_before = rw (test, before) (ap (λ (t : List ℕ). b ∷ t) rest.is_before);
+      is_behind = rw (test, behind) (rest.is_behind ∙ rw (add-one r, add-one (suc r)));
+      within = omega (arith, rest.within);
+    }
+
+pub first_at : (x : ℕ) (s : List ℕ) (at r : ℕ) → at ≤ length s → FirstOf x (take (length s - at) (drop at s)) r → FirstAt x s at (at + r)
+first_at x s at r h f =
+    let all : FirstOf x (drop at s) r = rw (part_rest s at) at f in
+    let within : at + r ≤ length s = omega (arith, length-drop at s, all.within) in
+    let part : take r (drop at s) ≡ slice at (at + r) s =
+    ap (λ (n : ℕ). take n (drop at s)) (let z : r ≡ at + r - at = omega arith in z) ∙ part_slice s at (at + r) (omega arith) within in
+    record {
+      is_before = all.is_before ∙ part;
+      is_behind = all.is_behind ∙ drop-drop (r + 1) at s ∙ ap (λ (n : ℕ). drop n s) (let z : at + (r + 1) ≡ at + r + 1 = omega arith in z);
+      later = omega arith;
+      within = within;
+    }
+
+pub behind_place : (s : List ℕ) (place : ℕ) → place ≤ length s → Behind s place (min (length s) (place + 1))
+behind_place s place h =
+    bool_cases (ltb place (length s))
+    (λ y. let l = ltb-true place (length s) y in let e : min (length s) (place + 1) ≡ place + 1 = omega arith in rw e (record { same = refl; later = omega arith; within = omega arith }))
+    (λ n. let g = ltb-false place (length s) n in
+    let e : min (length s) (place + 1) ≡ length s = omega arith in
+    rw e (record { same = drop_of_length-le s {i = length s} (omega arith) ∙ sym (drop_of_length-le s {i = place + 1} (omega arith)); later = omega arith; within = omega arith }))
 
 -- The rest of a comment line
 
-pub record Inside (s : List ℕ) (at i : ℕ) : Type 0 where
-  pub same : after_comments true (drop at s) ≡ after_comments true (drop i s)
-  pub later : at ≤ i
-  pub within : i ≤ length s
+inside_line : (t : List ℕ) → after_comments true t ≡ after_comments false (behind 10 t)
+unfolding after_comments behind
+inside_line [] = refl
+inside_line (b ∷ t) = bool_cases (eqb b 10) (λ y. rw (y, after_comments, behind)) (λ n. rw (n, after_comments, behind) (inside_line t))
 
-pub inside_start : (s : List ℕ) (at : ℕ) → at ≤ length s → Inside s at at
-inside_start s at h = record { same = refl; later = omega arith; within = h }
-
-module _ (s : List ℕ) (at i : ℕ) (r : Inside s at i) where
-  pub inside_end : length s ≤ i → AfterLine s at i
-  unfolding after_comments
-  inside_end h = record { same = r.same ∙ rw drop_of_length-le; later = r.later; within = r.within }
-
-  module _ (h : i < length s) where
-    pub inside_on : (get_or s i 0 ≡ 10 → ⊥) → Inside s at (i + 1)
-    unfolding after_comments
-    inside_on e = record { same = r.same ∙ rw (add-one i, drop-cons s i 0 h, after_comments, ne_eqb (get_or s i 0) 10 e); later = omega (arith, r.later); within = omega arith }
-
-    pub inside_feed : get_or s i 0 ≡ 10 → AfterLine s at (i + 1)
-    unfolding after_comments
-    inside_feed e = record { same = r.same ∙ rw (add-one i, drop-cons s i 0 h, e); later = omega (arith, r.later); within = omega arith }
+pub line_passed : (s : List ℕ) (at feed r : ℕ) → FirstAt 10 s at feed → Behind s feed r → AfterLine s at r
+line_passed s at feed r f b =
+    record {
+      same = inside_line (drop at s) ∙ ap (after_comments false) (f.is_behind ∙ sym b.same);
+      later = omega (arith, f.later, b.later);
+      within = b.within;
+    }
 
 -- Comment lines
 
@@ -53,59 +83,3 @@ module _ (s : List ℕ) (at : ℕ) (p : Passing s at) where
     passing_on r e l =
         let next : after_comments false (drop at s) ≡ after_comments true (drop (at + 1) s) = rw (add-one at, drop-cons s at 0 h, eq-eqb (get_or s at 0) 99 e, after_comments) in
         record { same = p.same ∙ next ∙ l.same; within = l.within }
-
--- The first place of a byte
-
-slice_more : (at i : ℕ) (s : List ℕ) → at ≤ i → i < length s → slice at (i + 1) s ≡ slice at i s ++ (get_or s i 0 ∷ [])
-slice_more at i s l h =
-    let n : at ≤ length (take i s) = omega (arith, length-take-le i s (omega arith)) in
-    rw (add-one i, take-suc s i 0 h) (drop-append-le at (take i s) (get_or s i 0 ∷ []) n)
-
-pub record Seeking (x : ℕ) (s : List ℕ) (at i : ℕ) : Type 0 where
-  pub ahead : before x (drop at s) ≡ slice at i s ++ before x (drop i s)
-  pub rest : behind x (drop at s) ≡ behind x (drop i s)
-  pub later : at ≤ i
-  pub within : i ≤ length s
-
-pub seeking_start : (x : ℕ) (s : List ℕ) (at : ℕ) → at ≤ length s → Seeking x s at at
-seeking_start x s at h = record { ahead = rw (slice_empty at s); rest = refl; later = omega arith; within = h }
-
-module _ (x : ℕ) (s : List ℕ) (at i : ℕ) (r : Seeking x s at i) where
-  pub seeking_end : length s ≤ i → FirstAt x s at i
-  unfolding before behind
-  seeking_end h =
-      let none_left : drop i s ≡ [] = drop_of_length-le s h in
-      let none-behind : drop (i + 1) s ≡ [] = drop_of_length-le s {i = i + 1} (omega arith) in
-      record {
-        is_before = r.ahead ∙ rw none_left (append-nil (slice at i s));
-        is_behind = r.rest ∙ rw (none_left, none-behind);
-        later = r.later;
-        within = r.within;
-      }
-
-  module _ (h : i < length s) where
-    pub seeking_stop : get_or s i 0 ≡ x → FirstAt x s at i
-    unfolding before behind
-    seeking_stop e =
-        let test = eq-eqb (get_or s i 0) x e in
-        let ends : before x (drop i s) ≡ [] = rw (drop-cons s i 0 h, test, before) in
-        record {
-          is_before = r.ahead ∙ rw ends (append-nil (slice at i s));
-          is_behind = r.rest ∙ rw (add-one i, drop-cons s i 0 h, test, behind);
-          later = r.later;
-          within = r.within;
-        }
-
-    pub seeking_on : (get_or s i 0 ≡ x → ⊥) → Seeking x s at (i + 1)
-    unfolding before behind
-    seeking_on e =
-        let test = ne_eqb (get_or s i 0) x e in
-        let goes : before x (drop i s) ≡ get_or s i 0 ∷ before x (drop (i + 1) s) = rw (add-one i, drop-cons s i 0 h, test, before) in
-        let more : slice at i s ++ (get_or s i 0 ∷ before x (drop (i + 1) s)) ≡ slice at (i + 1) s ++ before x (drop (i + 1) s) =
-        rw (slice_more at i s r.later h, append_assoc (slice at i s) (get_or s i 0 ∷ []) (before x (drop (i + 1) s))) in
-        record {
-          ahead = r.ahead ∙ ap (λ (t : List ℕ). slice at i s ++ t) goes ∙ more;
-          rest = r.rest ∙ rw (add-one i, drop-cons s i 0 h, test, behind);
-          later = omega (arith, r.later);
-          within = omega arith;
-        }

@@ -1,5 +1,5 @@
 -- What the functions of src/body.rt read, in terms of document 01's definitions (rules' Text and Formula).
-use Rattle.std.specs.Prelude.{ℕ, ◌+◌, ◌*◌, ◌<◌, ◌≤◌, max, ◌≡◌, ◌⊎◌, Bool, true, false, List, [], ◌∷◌, ◌++◌, map, leb, length, get_or, take, drop, Option, Some, None, Result, Ok, Err}
+use Rattle.std.specs.Prelude.{ℕ, ◌+◌, ◌*◌, ◌<◌, ◌≤◌, max, ◌≡◌, ◌⊎◌, true, false, List, [], ◌∷◌, ◌++◌, map, leb, length, get_or, take, drop, Option, Some, None, Result, Ok, Err}
 use Rattle.std.proofs.Math.Option.{none, some}
 use Rattle.meaning.specs.Meaning.{Clause}
 use Rattle.rules.specs.Text.{tokens, literal}
@@ -10,10 +10,10 @@ use Rattle.text.specs.declared.Token.TheVariants.{Nought, Plus, Minus, LetterD, 
 use Rattle.clauses.specs.Codes.{literal_of}
 use Rattle.clauses.specs.Store.{RoomFor, written, Holds}
 use Rattle.formula.specs.declared.body.NoLiteral.{NoLiteral}
-use Rattle.formula.specs.declared.body.ClauseRead.{ClauseRead}
-use Rattle.formula.specs.declared.body.ClauseRead.TheVariants.{Done, Unreadable, TooShort}
-use Rattle.formula.specs.declared.body.BodyRead.{BodyRead}
-use Rattle.formula.specs.declared.body.BodyRead.TheVariants.{Done as AllDone, Unreadable as AllUnreadable, TooShort as AllTooShort}
+use Rattle.formula.specs.declared.body.Progress.{Progress}
+use Rattle.formula.specs.declared.Fault.{Fault}
+use Rattle.formula.specs.declared.Fault.TheVariants.{Unreadable, TooShort}
+use Rattle.formula.specs.declared.Stopped.{Stopped}
 
 -- What a token says in a clause over variables up to m: the code of a literal, or nothing for the 0 at the end.
 abbrev pub item_of : ℕ → Token → Result (Option ℕ) NoLiteral
@@ -62,22 +62,27 @@ pub record ClauseLong (v : ℕ) (s : List ℕ) (at : ℕ) (before : List ℕ) (u
   pub later : at ≤ next
   pub within : next ≤ length s
 
--- What reading a clause came to, by the answer.
-abbrev pub ClauseCase : ℕ → List ℕ → ℕ → List ℕ → ℕ → List ℕ → ClauseRead → Type 0
-ClauseCase v s at before used after (Done next end) = ClauseDone v s at before used after next end
-ClauseCase v s at before used after (Unreadable next end) = ClauseBad v s at before used after next end
-ClauseCase v s at before used after (TooShort next end) = ClauseLong v s at before used after next end
+-- Why reading a clause stopped.
+abbrev pub ClauseStopped : ℕ → List ℕ → ℕ → List ℕ → ℕ → List ℕ → ℕ → ℕ → Fault → Type 0
+ClauseStopped v s at before used after next end Unreadable = ClauseBad v s at before used after next end
+ClauseStopped v s at before used after next end TooShort = ClauseLong v s at before used after next end
 
-pub record ReadsClause (v : ℕ) (s : List ℕ) (at : ℕ) (before : List ℕ) (used : ℕ) (after : List ℕ) (r : ClauseRead) : Type 0 where
-  pub case : ClauseCase v s at before used after r
+-- What reading a clause came to, by the answer, where k clauses were closed before.
+abbrev pub ClauseCase : ℕ → List ℕ → ℕ → List ℕ → ℕ → ℕ → List ℕ → Result Progress Stopped → Type 0
+ClauseCase v s at before used k after (Ok done) = ClauseDone v s at before used after done.next done.used
+ClauseCase v s at before used k after (Err stop) = ClauseStopped v s at before used after stop.at stop.used stop.fault × (stop.closed ≡ k)
 
--- The clause that ends at `end` was closed as the k-th, or there was no room for it and nothing was changed.
-abbrev pub CloseCase : List ℕ → ℕ → ℕ → List ℕ → Bool → Type 0
-CloseCase before k end after true = RoomFor before (k + 1) × (after ≡ written before k (2 * (k + 1)) end)
-CloseCase before k end after false = (length before ≤ 3 * k + 5) × (after ≡ before)
+pub record ReadsClause (v : ℕ) (s : List ℕ) (at : ℕ) (before : List ℕ) (used k : ℕ) (after : List ℕ) (r : Result Progress Stopped) : Type 0 where
+  pub case : ClauseCase v s at before used k after r
 
-pub record Closes (before : List ℕ) (k end : ℕ) (after : List ℕ) (r : Bool) : Type 0 where
-  pub case : CloseCase before k end after r
+-- The clause was closed as the k-th, or there was no room for it and nothing was changed.
+abbrev pub CloseCase : List ℕ → ℕ → Progress → List ℕ → Result (Unit {0}) Stopped → Type 0
+CloseCase before k clause after (Ok done) = RoomFor before (k + 1) × (after ≡ written before k (2 * (k + 1)) clause.used)
+CloseCase before k clause after (Err stop) =
+    (length before ≤ 3 * k + 5) × (after ≡ before) × (stop ≡ record { fault = TooShort; at = clause.next; used = clause.used; closed = k })
+
+pub record Closes (before : List ℕ) (k : ℕ) (clause : Progress) (after : List ℕ) (r : Result (Unit {0}) Stopped) : Type 0 where
+  pub case : CloseCase before k clause after r
 
 -- So many clauses were read from `at` on, and the store holds them, none lost or gained.
 pub record BodyDone (v c : ℕ) (s : List ℕ) (at : ℕ) (heads lits : List ℕ) (next used : ℕ) : Type 0 where
@@ -103,13 +108,17 @@ pub record BodyLong (s : List ℕ) (at : ℕ) (heads lits : List ℕ) (next used
   pub later : at ≤ next
   pub within : next ≤ length s
 
--- What reading the clauses came to, by the answer.
-abbrev pub BodyCase : ℕ → ℕ → List ℕ → ℕ → List ℕ → List ℕ → List ℕ → List ℕ → BodyRead → Type 0
-BodyCase v c s at heads₀ lits₀ heads lits (AllDone next used) = BodyDone v c s at heads lits next used
-BodyCase v c s at heads₀ lits₀ heads lits (AllUnreadable next used closed) = BodyBad v c s at next used closed
-BodyCase v c s at heads₀ lits₀ heads lits (AllTooShort next used closed) = BodyLong s at heads₀ lits₀ next used closed
+-- Why reading the clauses stopped.
+abbrev pub BodyStopped : ℕ → ℕ → List ℕ → ℕ → List ℕ → List ℕ → ℕ → ℕ → ℕ → Fault → Type 0
+BodyStopped v c s at heads₀ lits₀ next used closed Unreadable = BodyBad v c s at next used closed
+BodyStopped v c s at heads₀ lits₀ next used closed TooShort = BodyLong s at heads₀ lits₀ next used closed
 
-pub record ReadsBody (v c : ℕ) (s : List ℕ) (at : ℕ) (heads₀ lits₀ heads lits : List ℕ) (r : BodyRead) : Type 0 where
+-- What reading the clauses came to, by the answer.
+abbrev pub BodyCase : ℕ → ℕ → List ℕ → ℕ → List ℕ → List ℕ → List ℕ → List ℕ → Result Progress Stopped → Type 0
+BodyCase v c s at heads₀ lits₀ heads lits (Ok done) = BodyDone v c s at heads lits done.next done.used
+BodyCase v c s at heads₀ lits₀ heads lits (Err stop) = BodyStopped v c s at heads₀ lits₀ stop.at stop.used stop.closed stop.fault
+
+pub record ReadsBody (v c : ℕ) (s : List ℕ) (at : ℕ) (heads₀ lits₀ heads lits : List ℕ) (r : Result Progress Stopped) : Type 0 where
   pub case : BodyCase v c s at heads₀ lits₀ heads lits r
 
 -- The greatest number of a list, or 0.

@@ -1,5 +1,5 @@
 -- What reading a formula comes to, in terms of document 01's `read_formula`.
-use Rattle.std.specs.Prelude.{ℕ, ◌+◌, ◌*◌, ◌/◌, ◌<◌, ◌≤◌, ◌≡◌, ◌⊎◌, Bool, true, false, List, [], ◌∷◌, length, take, drop, get_or}
+use Rattle.std.specs.Prelude.{ℕ, ◌+◌, ◌*◌, ◌/◌, ◌<◌, ◌≤◌, ◌≡◌, ◌⊎◌, Bool, true, false, List, [], ◌∷◌, length, take, drop, get_or, Result, Ok, Err}
 use Rattle.std.proofs.Math.Option.{Option, none, some}
 use Rattle.meaning.specs.Meaning.{Formula}
 use Rattle.rules.specs.Tools.{◌>>=◌}
@@ -8,8 +8,11 @@ use Rattle.rules.specs.Formula.{read_clauses, at_end, read_formula}
 use Rattle.rules.specs.Answers.{numbered}
 use Rattle.clauses.specs.Store.{Holds}
 use Rattle.formula.specs.Body.{greatest}
-use Rattle.formula.specs.declared.FormulaRead.{FormulaRead}
-use Rattle.formula.specs.declared.FormulaRead.TheVariants.{Stored, Unreadable, TooShort}
+use Rattle.formula.specs.declared.body.Progress.{Progress}
+use Rattle.formula.specs.declared.Fault.{Fault}
+use Rattle.formula.specs.declared.Fault.TheVariants.{Unreadable, TooShort}
+use Rattle.formula.specs.declared.Stopped.{Stopped}
+use Rattle.formula.specs.declared.Stored.{Stored}
 
 -- Whether tokens are left.
 abbrev pub EndedCase : List Token → Bool → Type 0
@@ -19,12 +22,6 @@ EndedCase ts false = (t : Token) × (rest : List Token) × (ts ≡ t ∷ rest)
 pub record Ended (ts : List Token) (r : Bool) : Type 0 where
   pub case : EndedCase ts r
 
--- r is the first place behind the line that ends at `line`.
-pub record Behind (s : List ℕ) (line r : ℕ) : Type 0 where
-  pub same : drop r s ≡ drop (line + 1) s
-  pub later : line ≤ r
-  pub within : r ≤ length s
-
 -- The formula that the tokens behind the line `p cnf V C` say.
 unfoldable pub rest_of : ℕ → ℕ → List Token → Option Formula
 unfolding read_clauses
@@ -33,14 +30,14 @@ rest_of v c ts = do
   at_end rest (record { vars = v; clauses = cs })
 
 -- The end of reading, where all clauses are in the store.
-abbrev pub FinishCase : List ℕ → ℕ → ℕ → ℕ → ℕ → List ℕ → FormulaRead → Type 0
-FinishCase s next v c used lits (Stored vars clauses all top) =
-    (tokens (drop next s) ≡ []) × (vars ≡ v) × (clauses ≡ c) × (all ≡ used) × (top ≡ greatest (take used lits) / 2)
-FinishCase s next v c used lits (Unreadable at all closed) = EndedCase (tokens (drop next s)) false × (at ≡ next) × (all ≡ used) × (closed ≡ c)
-FinishCase s next v c used lits (TooShort at all closed) = ⊥
+abbrev pub FinishCase : List ℕ → Progress → ℕ → ℕ → List ℕ → Result Stored Stopped → Type 0
+FinishCase s done v c lits (Ok r) =
+    (tokens (drop done.next s) ≡ []) × (r ≡ record { vars = v; clauses = c; used = done.used; top = greatest (take done.used lits) / 2 })
+FinishCase s done v c lits (Err stop) =
+    EndedCase (tokens (drop done.next s)) false × (stop ≡ record { fault = Unreadable; at = done.next; used = done.used; closed = c })
 
-pub record Finishes (s : List ℕ) (next v c used : ℕ) (lits : List ℕ) (r : FormulaRead) : Type 0 where
-  pub case : FinishCase s next v c used lits r
+pub record Finishes (s : List ℕ) (done : Progress) (v c : ℕ) (lits : List ℕ) (r : Result Stored Stopped) : Type 0 where
+  pub case : FinishCase s done v c lits r
 
 -- The bytes s spell the formula o, if they spell one, and it was stored: its clauses, in order, literal by literal, none lost
 -- or gained, with ids 1 to C.
@@ -66,15 +63,19 @@ pub record IsTooShort (s : List ℕ) (heads lits : List ℕ) (at used closed : �
   pub within : at ≤ length s
   pub few : 2 * (used + closed) ≤ length s + 1
 
-abbrev pub ReadCase : Option Formula → List ℕ → List ℕ → List ℕ → List ℕ → List ℕ → FormulaRead → Type 0
-ReadCase o s heads₀ lits₀ heads lits (Stored vars clauses used top) = IsStored o s heads lits vars clauses used top
-ReadCase o s heads₀ lits₀ heads lits (Unreadable at used closed) = IsUnreadable o s at used closed
-ReadCase o s heads₀ lits₀ heads lits (TooShort at used closed) = IsTooShort s heads₀ lits₀ at used closed
+-- Why reading stopped.
+abbrev pub ReadStopped : Option Formula → List ℕ → List ℕ → List ℕ → ℕ → ℕ → ℕ → Fault → Type 0
+ReadStopped o s heads₀ lits₀ at used closed Unreadable = IsUnreadable o s at used closed
+ReadStopped o s heads₀ lits₀ at used closed TooShort = IsTooShort s heads₀ lits₀ at used closed
 
-pub record ReadsRest (v c : ℕ) (s : List ℕ) (line : ℕ) (heads₀ lits₀ heads lits : List ℕ) (r : FormulaRead) : Type 0 where
+abbrev pub ReadCase : Option Formula → List ℕ → List ℕ → List ℕ → List ℕ → List ℕ → Result Stored Stopped → Type 0
+ReadCase o s heads₀ lits₀ heads lits (Ok r) = IsStored o s heads lits r.vars r.clauses r.used r.top
+ReadCase o s heads₀ lits₀ heads lits (Err stop) = ReadStopped o s heads₀ lits₀ stop.at stop.used stop.closed stop.fault
+
+pub record ReadsRest (v c : ℕ) (s : List ℕ) (line : ℕ) (heads₀ lits₀ heads lits : List ℕ) (r : Result Stored Stopped) : Type 0 where
   pub case : ReadCase (rest_of v c (tokens (drop (line + 1) s))) s heads₀ lits₀ heads lits r
 
 -- Stored exactly if the bytes spell a formula, and then the store holds it; unreadable exactly if they spell none; too short
 -- only if a part is shorter than stated.
-pub record Reads (s : List ℕ) (heads₀ lits₀ heads lits : List ℕ) (r : FormulaRead) : Type 0 where
+pub record Reads (s : List ℕ) (heads₀ lits₀ heads lits : List ℕ) (r : Result Stored Stopped) : Type 0 where
   pub case : ReadCase (read_formula s) s heads₀ lits₀ heads lits r

@@ -2,11 +2,12 @@
 //
 // The turns of a loop here can be told from what is returned: one for each literal that was stored or clause that was
 // closed, and the bytes passed for the leaves below.
-ghost use Rattle.std.specs.Prelude.{◌≡◌, ◌+◌, ◌*◌, ◌<◌, ◌≤◌, ◌^◌, max, length, take, set, []};
+ghost use Rattle.std.specs.Prelude.{◌≡◌, ◌+◌, ◌*◌, ◌<◌, ◌≤◌, ◌^◌, length, set, []};
 ghost use Rattle.rules.specs.Limits.{max_variable, max_clauses};
 ghost use Rattle.clauses.specs.Store.{Holds};
 ghost use Rattle.formula.specs.Body.{item_of, ReadsClause, Closes, ReadsBody, greatest};
 
+use crate::{Fault, Stopped};
 use text::Token;
 
 // What is said of a token that is neither a literal nor the 0 behind the last one.
@@ -35,76 +36,73 @@ pub fn push(lits: &mut [u32], at: usize, l: u32)
     lits[at] = l;
 }
 
-// Where reading a clause came to: the place behind its 0, or where it stopped; and the end of the literals that it stored.
+// How far reading came: the place in the text behind what was read, and the end of the literals that were stored.
 #[derive(Clone, Copy)]
-pub enum ClauseRead {
-    Done { next: usize, end: usize },
-    Unreadable { next: usize, end: usize },
-    TooShort { next: usize, end: usize },
+pub struct Progress {
+    pub next: usize,
+    pub used: usize,
 }
 
-// The literals from `at` on, up to 0, go behind the first `used`.
-pub fn read_clause(s: &[u8], at: usize, vars: u64, lits: &mut [u32], used: usize) -> ClauseRead
-    requires at_in_bounds { at ≤ length s.now }
-    requires used_in_bounds { used ≤ length lits.old }
+// The literals that follow, up to 0, go behind those that are stored; so many clauses were closed before.
+pub fn read_clause(
+    s: &[u8],
+    from: Progress,
+    vars: u64,
+    lits: &mut [u32],
+    closed: usize,
+) -> Result<Progress, Stopped>
+    requires at_in_bounds { from.next ≤ length s.now }
+    requires used_in_bounds { from.used ≤ length lits.old }
     requires vars_le_max_variable { vars ≤ max_variable }
-    ensures { ReadsClause vars s.now at lits.old used lits.new result }
+    ensures { ReadsClause vars s.now from.next lits.old from.used closed lits.new result }
 {
-    let mut i = at;
-    let mut w = used;
+    let mut i = from.next;
+    let mut w = from.used;
     loop {
-        let r = text::token_at(s, i);
-        let next = r.next;
-        let t = r.token;
-        match item_of(t, vars) {
+        let found = text::token_at(s, i);
+        match item_of(found.token, vars) {
             Ok(Some(l)) => {
                 if lits.len() <= w {
-                    return ClauseRead::TooShort { next: i, end: w };
+                    return Err(Stopped {
+                        fault: Fault::TooShort,
+                        at: i,
+                        used: w,
+                        closed,
+                    });
                 }
-                push(lits, w, l);
-                i = next;
+                lits[w] = l;
+                w += 1;
+                i = found.next;
             }
-            Ok(None) => {
-                return ClauseRead::Done { next: next, end: w };
-            }
-            Err(_) => {
-                return ClauseRead::Unreadable { next: i, end: w };
-            }
+            Ok(None) => return Ok(Progress {
+                next: found.next,
+                used: w,
+            }),
+            Err(_) => return Err(Stopped {
+                fault: Fault::Unreadable,
+                at: i,
+                used: w,
+                closed,
+            }),
         }
-        w += 1;
     }
 }
 
-// Where reading the clauses came to: the place behind the last one, or where it stopped; how many literals were stored, and
-// how many clauses were closed.
-#[derive(Clone, Copy)]
-pub enum BodyRead {
-    Done {
-        next: usize,
-        used: usize,
-    },
-    Unreadable {
-        next: usize,
-        used: usize,
-        closed: usize,
-    },
-    TooShort {
-        next: usize,
-        used: usize,
-        closed: usize,
-    },
-}
-
-// The clause that ends at `end` becomes the `k`-th, with the id k + 1, if there is room for it.
-fn close(heads: &mut [u32], k: usize, end: usize) -> bool
+// The clause that was read so far becomes the `k`-th, with the id k + 1, if there is room for it.
+fn close(heads: &mut [u32], k: usize, clause: Progress) -> Result<(), Stopped>
     requires { k < max_clauses }
-    ensures { Closes heads.old k end heads.new result }
+    ensures { Closes heads.old k clause heads.new result }
 {
     if heads.len() <= 3 * k + 5 {
-        return false;
+        return Err(Stopped {
+            fault: Fault::TooShort,
+            at: clause.next,
+            used: clause.used,
+            closed: k,
+        });
     }
-    clauses::append(heads, k, clauses::count(k + 1), end);
-    true
+    clauses::append(heads, k, (k + 1) as u64, clause.used);
+    Ok(())
 }
 
 // So many clauses from `at` on, over variables up to `vars`, into an empty store.
@@ -115,69 +113,27 @@ pub fn read_clauses(
     many: usize,
     heads: &mut [u32],
     lits: &mut [u32],
-) -> BodyRead
+) -> Result<Progress, Stopped>
     requires at_in_bounds { at ≤ length s.now }
     requires vars_le_max_variable { (vars ≤ max_variable) × (many ≤ max_clauses) }
     requires holds { Holds heads.old lits.old 0 0 0 [] }
     ensures { ReadsBody vars many s.now at heads.old lits.old heads.new lits.new result }
 {
-    let mut i = at;
-    let mut used = 0;
-    let mut k = 0;
-    while k < many {
-        let r = read_clause(s, i, vars, lits, used);
-        match r {
-            ClauseRead::Done { next, end } => {
-                if !close(heads, k, end) {
-                    return BodyRead::TooShort {
-                        next: next,
-                        used: end,
-                        closed: k,
-                    };
-                }
-                i = next;
-                used = end;
-            }
-            ClauseRead::Unreadable { next, end } => {
-                return BodyRead::Unreadable {
-                    next: next,
-                    used: end,
-                    closed: k,
-                };
-            }
-            ClauseRead::TooShort { next, end } => {
-                return BodyRead::TooShort {
-                    next: next,
-                    used: end,
-                    closed: k,
-                };
-            }
-        }
-        k += 1;
+    let mut done = Progress { next: at, used: 0 };
+    for k in 0..many {
+        done = read_clause(s, done, vars, lits, k)?;
+        close(heads, k, done)?;
     }
-    BodyRead::Done {
-        next: i,
-        used: used,
-    }
+    Ok(done)
 }
 
-// The larger of two numbers.
-fn larger(x: u32, y: u32) -> u32
-    ensures { result ≡ max x y }
-{
-    if x < y { y } else { x }
-}
-
-// The greatest number among the first `used` of `lits`, or 0.
-pub fn greatest_code(lits: &[u32], used: usize) -> u32
-    requires { used ≤ length lits.now }
-    ensures { result ≡ greatest (take used lits.now) }
+// The greatest of the numbers, or 0.
+pub fn greatest_code(lits: &[u32]) -> u32
+    ensures { result ≡ greatest lits.now }
 {
     let mut top: u32 = 0;
-    let mut i = 0;
-    while i < used {
-        top = larger(top, lits[i]);
-        i += 1;
+    for l in lits {
+        top = top.max(*l);
     }
     top
 }

@@ -1,44 +1,19 @@
 // What stands before the clauses: comment lines, and the line `p cnf V C`.
 //
 // Each loop moves on by a byte with each turn, so the turns of a function here are the bytes that it passed.
-ghost use Rattle.std.specs.Prelude.{◌≡◌, ◌+◌, ◌<◌, ◌≤◌, length, drop};
-ghost use Rattle.rules.specs.Tools.{bytes, only};
-ghost use Rattle.rules.specs.Limits.{max_clauses};
-ghost use Rattle.rules.specs.Formula.{after_prefix, count, header};
+ghost use Rattle.std.specs.Prelude.{◌≡◌, ◌+◌, ◌<◌, ◌≤◌, length};
+ghost use Rattle.rules.specs.Formula.{count, header};
 ghost use Rattle.rules.specs.Text.{token};
 ghost use Rattle.text.specs.Scan.{most};
-ghost use Rattle.formula.specs.Opening.{AfterLine, AfterComments, FirstAt, counted, count_of, header_of, with_clauses};
+ghost use Rattle.formula.specs.Opening.{AfterLine, AfterComments, FirstOf, FirstAt, Behind, counted, count_of, header_of};
 
 use text::Token;
 
-// The place behind the rest of a comment line, which goes on at `at`.
-fn after_line(s: &[u8], at: usize) -> usize
-    requires { at ≤ length s.now }
-    ensures { AfterLine s.now at result }
+// The place of the first byte x, or the end.
+fn place_of(s: &[u8], x: u8) -> usize
+    ensures { FirstOf x s.now result }
 {
-    let mut i = at;
-    while i < s.len() {
-        let b = s[i];
-        i += 1;
-        if b == 10 {
-            return i;
-        }
-    }
-    i
-}
-
-// The place behind the comment lines.
-pub fn after_comments(s: &[u8]) -> usize
-    ensures { AfterComments s.now result }
-{
-    let mut at = 0;
-    while at < s.len() {
-        if s[at] != 99 {
-            return at;
-        }
-        at = after_line(s, at + 1);
-    }
-    at
+    s.iter().position(|&b| b == x).unwrap_or(s.len())
 }
 
 // The first place from `at` on that has the byte x, or the end.
@@ -46,124 +21,76 @@ pub fn first(s: &[u8], at: usize, x: u8) -> usize
     requires { at ≤ length s.now }
     ensures { FirstAt x s.now at result }
 {
-    let mut i = at;
-    while i < s.len() {
-        if s[i] == x {
-            return i;
-        }
-        i += 1;
-    }
-    i
+    at + place_of(&s[at..], x)
 }
 
-// A number from 0 on, or none.
-#[derive(Clone, Copy)]
-pub enum Count {
-    Of(u64),
-    Wrong,
+// The place behind the byte at `place`, or the end.
+pub fn behind(s: &[u8], place: usize) -> usize
+    requires { place ≤ length s.now }
+    ensures { Behind s.now place result }
+{
+    s.len().min(place + 1)
+}
+
+// The place behind the rest of a comment line, which goes on at `at`.
+fn after_line(s: &[u8], at: usize) -> usize
+    requires { at ≤ length s.now }
+    ensures { AfterLine s.now at result }
+{
+    behind(s, first(s, at, b'\n'))
+}
+
+// The place behind the comment lines.
+pub fn after_comments(s: &[u8]) -> usize
+    ensures { AfterComments s.now result }
+{
+    let mut at = 0;
+    while at < s.len() && s[at] == b'c' {
+        at = after_line(s, at + 1);
+    }
+    at
 }
 
 // A token as a number from 0 to `limit`.
-fn within(t: Token, limit: u64) -> Count
+fn within(t: Token, limit: u64) -> Option<u64>
     ensures { result ≡ counted limit t }
 {
     match t {
-        Token::Nought => Count::Of(0),
-        Token::Plus(v) => {
-            if limit < v {
-                return Count::Wrong;
-            }
-            Count::Of(v)
-        }
-        Token::Minus(_) => Count::Wrong,
-        Token::LetterD => Count::Wrong,
-        Token::Other => Count::Wrong,
-        Token::Nothing => Count::Wrong,
+        Token::Nought => Some(0),
+        Token::Plus(v) if v <= limit => Some(v),
+        _ => None,
     }
 }
 
 // All of `s` as a number from 0 to `limit`.
-fn count_of(s: &[u8], limit: u64) -> Count
+fn count_of(s: &[u8], limit: u64) -> Option<u64>
     requires { limit < most }
     ensures { result ≡ count_of (count limit (token s.now)) }
 {
-    if s.len() == 0 {
-        return Count::Wrong;
+    if text::is_blank(*s.first()?) {
+        return None;
     }
-    if text::is_blank(s[0]) {
-        return Count::Wrong;
+    let word = text::token_at(s, 0);
+    if word.next != s.len() {
+        return None;
     }
-    let r = text::token_at(s, 0);
-    let next = r.next;
-    if next != s.len() {
-        return Count::Wrong;
-    }
-    let t = r.token;
-    within(t, limit)
+    within(word.token, limit)
 }
 
-// Whether the line begins with `p cnf `.
-fn prefixed(line: &[u8]) -> bool
-    ensures { after_prefix (bytes "p cnf ") line.now ≡ only result (drop 6 line.now) }
-{
-    if line.len() < 6 {
-        return false;
-    }
-    if line[0] != 112 {
-        return false;
-    }
-    if line[1] != 32 {
-        return false;
-    }
-    if line[2] != 99 {
-        return false;
-    }
-    if line[3] != 110 {
-        return false;
-    }
-    if line[4] != 102 {
-        return false;
-    }
-    line[5] == 32
-}
-
-// V and C, or that the line is none that announces a formula.
+// V and C, as the line `p cnf V C` announces them.
 #[derive(Clone, Copy)]
-pub enum Header {
-    Of { vars: u64, clauses: u64 },
-    Wrong,
-}
-
-// What stands behind the space at `space` as C.
-fn with_clauses(line: &[u8], space: usize, vars: u64) -> Header
-    requires { space ≤ length line.now }
-    ensures { result ≡ with_clauses vars (count max_clauses (token (drop (space + 1) line.now))) }
-{
-    if line.len() <= space {
-        return Header::Wrong;
-    }
-    let from = space + 1;
-    let c = count_of(&line[from..], 16777215);
-    match c {
-        Count::Of(clauses) => Header::Of {
-            vars: vars,
-            clauses: clauses,
-        },
-        Count::Wrong => Header::Wrong,
-    }
+pub struct Header {
+    pub vars: u64,
+    pub clauses: u64,
 }
 
 // The line as `p cnf V C`.
-pub fn announced(line: &[u8]) -> Header
+pub fn announced(line: &[u8]) -> Option<Header>
     ensures { result ≡ header_of (header line.now) }
 {
-    if !prefixed(line) {
-        return Header::Wrong;
-    }
-    let space = first(line, 6, 32);
-    let v = count_of(&line[6..space], 16777215);
-    match v {
-        Count::Of(vars) => with_clauses(line, space, vars),
-        Count::Wrong => Header::Wrong,
-    }
+    let numbers = line.strip_prefix(b"p cnf ")?;
+    let space = place_of(numbers, b' ');
+    let vars = count_of(&numbers[..space], 16777215)?;
+    let clauses = count_of(&numbers[behind(numbers, space)..], 16777215)?;
+    Some(Header { vars, clauses })
 }

@@ -1,21 +1,21 @@
 -- `opening::announced` meets its contract: the prefix, the number before the first space behind it, the number behind that
 -- space. Assumes nothing.
-use Rattle.std.proofs.Common.{◌∙◌}
-use Rattle.formula.proofs.Headers.{announced_off, announced-none, announced_both, prefixed-long}
+use Rattle.formula.proofs.Headers.{header_off, header_vars, header_clauses, header_both}
 use Rattle.formula.proofs.opening.announced.Goals as goal
 
-pub returns-then-not-prefixed : goal.returns-then-not-prefixed
-returns-then-not-prefixed c = announced_off _ c.prefixed.result c.prefixed.ensures (c.if-not-prefixed.true)
+pub returns-in_err-numbers : goal.returns-in_err-numbers
+returns-in_err-numbers c = rw c.from_residual.ensures (header_off _ c.in_err-numbers.ensures.cases)
 
-pub first-space-requires : goal.first-space-requires
-first-space-requires c = prefixed-long c.args.line.now c.prefixed.result c.prefixed.ensures c.if-not-prefixed.false
+pub returns-in_err-vars : goal.returns-in_err-vars
+returns-in_err-vars c =
+    rw c.from_residual-in_err-vars.ensures
+    (header_vars _ _ c.in_ok-numbers.ensures.cases.0 c.in_ok-numbers.ensures.cases.1 _ c.place_of-space.ensures c.in_err-vars.ensures)
 
-pub returns-in-Of : goal.returns-in-Of
-returns-in-Of c =
-    c.with_clauses.ensures ∙ announced_both c.args.line.now c.prefixed.result _ c.prefixed.ensures (c.if-not-prefixed.false) c.first-space.ensures
-    _ c.count_of-v.ensures _ c.in-Of.is
+pub returns-in_err-clauses : goal.returns-in_err-clauses
+returns-in_err-clauses c =
+    rw c.from_residual-in_err-clauses.ensures
+    (header_clauses _ _ c.in_ok-numbers.ensures.cases.0 c.in_ok-numbers.ensures.cases.1 _ c.place_of-space.ensures _ c.in_ok-vars.ensures _ c.behind.ensures c.in_err-clauses.ensures)
 
-pub returns-in-Wrong : goal.returns-in-Wrong
-returns-in-Wrong c =
-    announced-none c.args.line.now c.prefixed.result _ c.prefixed.ensures (c.if-not-prefixed.false) c.first-space.ensures _
-    c.count_of-v.ensures c.in-Wrong.is
+pub returns : goal.returns
+returns c =
+    header_both _ _ c.in_ok-numbers.ensures.cases.0 c.in_ok-numbers.ensures.cases.1 _ c.place_of-space.ensures _ c.in_ok-vars.ensures _ c.behind.ensures _ c.in_ok-clauses.ensures
