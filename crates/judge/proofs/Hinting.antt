@@ -1,24 +1,21 @@
 -- Laws of one hint: its clause is found in the store, and looked at. Assumes nothing.
 use Rattle.std.proofs.Common.{ℕ, ◌+◌, ◌-◌, ◌*◌, ◌^◌, ◌<◌, ◌≤◌, ◌≡◌, refl, sym, ap, subst, ◌∙◌, ⊎_elim, List, map, arith, length, get_or, take, drop, get_or-drop, get_or-take, pow_mono, pow-add}
+use Rattle.std.specs.Prelude.{Option, Some, None}
 use Rattle.std.proofs.Math.ListN.{length-map}
 use Rattle.std.proofs.Math.Seq.{slice, length-slice}
 use Rattle.rules.specs.Judging.{look_at}
 use Rattle.clauses.specs.Codes.{literal_of, half}
-use Rattle.clauses.specs.Store.{id_at, start_at, RoomFor, clause_at, live_of, Holds}
+use Rattle.clauses.specs.Store.{id_at, start_at, Placed, clause_at, live_of, Holds}
 use Rattle.clauses.proofs.Parts.{part_slice}
-use Rattle.clauses.specs.Finding.{Searchable, Peeked, FoundIn, turns_of, AtMostHalvings}
-use Rattle.clauses.specs.declared.Found.{Found}
-use Rattle.clauses.specs.declared.Found.TheVariants.{At, Nowhere}
+use Rattle.clauses.specs.Finding.{Finds, AtMostHalvings}
 use Rattle.clauses.proofs.Entries.{clause_is, start-below}
-use Rattle.clauses.proofs.Holding.{store_searchable, holds_found, holds_lacks}
+use Rattle.clauses.proofs.Holding.{holds_found, holds_lacks}
 use Rattle.clauses.proofs.Numbers.{cut}
 use Rattle.assignment.specs.Marks.{Marked}
 use Rattle.assignment.specs.Sight.{sight_of, Looks}
 use Rattle.assignment.specs.declared.Look.{Look as Sight}
-use Rattle.assignment.specs.declared.Look.TheVariants.{AllFalse as SightAllFalse, Forces as SightForces, Neither as SightNeither}
-use Rattle.judge.specs.Hints.{Ready, shown_of, Lookable, LooksAt, Seen, HintCase, Hints, Ahead}
-use Rattle.judge.specs.declared.hints.Shown.{Shown}
-use Rattle.judge.specs.declared.hints.Shown.TheVariants.{NotLive, Forces}
+use Rattle.assignment.specs.declared.Look.TheVariants.{AllFalse, Forces, Neither}
+use Rattle.judge.specs.Hints.{Ready, Lookable, Seen, HintCase, Hints, ids_in}
 
 -- Parts of lists
 
@@ -47,12 +44,6 @@ halvings_short n turns h small =
 module _ (heads lits : List ℕ) (n : ℕ) (marks : List ℕ) (ready : Ready heads lits n marks) where
   holds : Holds heads lits n ready.used ready.last (live_of heads lits n)
   holds = record { store = ready.store; same = refl }
-
-  pub ready_searchable : (id : ℕ) → id < 2 ^ 60 → Searchable heads n id
-  ready_searchable id h = store_searchable heads lits n ready.used ready.last ready.store id h
-
-  pub ready_room : RoomFor heads n
-  ready_room = omega (arith, ready.store.room)
 
   module _ (place : ℕ) (h : place < n) where
     below_used : start_at heads (place + 1) ≤ ready.used
@@ -88,73 +79,62 @@ module _ (heads lits : List ℕ) (n : ℕ) (marks : List ℕ) (ready : Ready hea
       }
 
       hint_case : (literals : ℕ) → literals ≡ start_at heads (place + 1) - start_at heads place → (s : Sight) → Looks (slice (start_at heads place) (start_at heads (place + 1)) lits) marks s
-          → HintCase (live_of heads lits n) marks id literals (shown_of s)
-      hint_case literals e SightAllFalse l = seen literals e SightAllFalse l
-      hint_case literals e (SightForces x) l = record {
-        seen = seen literals e (SightForces x) l;
+          → HintCase (live_of heads lits n) marks id literals (Some s)
+      hint_case literals e AllFalse l = seen literals e AllFalse l
+      hint_case literals e (Forces x) l = record {
+        seen = seen literals e (Forces x) l;
         known = rw l.forced.stands.is at (ready_lookable.known.below l.forced.stands.place l.forced.stands.inside);
         free = l.forced.free;
       }
-      hint_case literals e SightNeither l = seen literals e SightNeither l
+      hint_case literals e Neither l = seen literals e Neither l
 
   -- The answers of `hint`.
-  module _ (id : ℕ) (found : Found) (in_store : FoundIn heads n id found) (few : AtMostHalvings n (turns_of found)) (long : length heads < 2 ^ 64) where
-    found_at : (place turns : ℕ) → found ≡ At place turns → (place < n) × (id_at heads place ≡ 2 * id)
-    found_at place turns e = subst (FoundIn heads n id) e in_store
+  module _ (id : ℕ) (found : Option ℕ) (turns : ℕ) (in_store : Finds heads n id found) (few : AtMostHalvings n turns) (long : length heads < 2 ^ 64) where
+    found_short : turns < 64
+    found_short = halvings_short n turns few (omega (arith, ready.store.room))
 
-    pub found_lookable : (place turns : ℕ) → found ≡ At place turns → Lookable heads lits marks place
-    found_lookable place turns e = ready_lookable place (found_at place turns e).0
-
-    pub found_short : turns_of found < 64
-    found_short = halvings_short n (turns_of found) few (omega (arith, ready.store.room))
-
-    pub found_short_at : (place turns : ℕ) → found ≡ At place turns → turns < 64
-    found_short_at place turns e = rw (← ap turns_of e) found_short
-
-    pub hint-live : (place turns : ℕ) → found ≡ At place turns → (shown : Shown) (turns' : ℕ) → LooksAt heads lits marks place turns shown turns' → Hints heads lits n marks id shown turns'
-    hint-live place turns e shown turns' l =
-        let at = found_at place turns e in
-        record {
-          search = turns;
-          literals = start_at heads (place + 1) - start_at heads place;
-          halvings = subst (AtMostHalvings n) (ap turns_of e) few;
-          short = found_short_at place turns e;
-          few = omega (arith, (found_lookable place turns e).inside);
-          counted = l.counted;
-          case = rw l.is (hint_case place at.0 id at.1 turns (start_at heads (place + 1) - start_at heads place) refl l.sight l.looks);
-        }
-
-    pub hint_not_live_lem : (turns : ℕ) → found ≡ Nowhere turns → Hints heads lits n marks id NotLive turns
-    hint_not_live_lem turns e = record {
+    pub hint_none : found ≡ None → Hints heads lits n marks id None turns
+    hint_none e = record {
       search = turns;
       literals = 0;
-      halvings = subst (AtMostHalvings n) (ap turns_of e) few;
-      short = rw (← ap turns_of e) found_short;
+      halvings = few;
+      short = found_short;
       few = omega arith;
       counted = omega arith;
-      case = (holds_lacks heads lits n ready.used ready.last (live_of heads lits n) holds id (subst (FoundIn heads n id) e in_store), refl);
+      case = (holds_lacks heads lits n ready.used ready.last (live_of heads lits n) holds id (subst (Finds heads n id) e in_store), refl);
     }
 
--- The peek for a hint is the one for its id.
+    module _ (place : ℕ) (e : found ≡ Some place) where
+      found_at : (place < n) × (id_at heads place ≡ 2 * id)
+      found_at = subst (Finds heads n id) e in_store
 
-module _ (heads : List ℕ) (n : ℕ) (hints : List ℕ) (i to place id : ℕ) (e : id ≡ half (get_or hints i 0)) where
-  pub ahead_from : Peeked heads n id place → Ahead heads n hints i to place
-  ahead_from p = record { peeked = λ more. rw (← e) p }
+      pub found_lookable : Lookable heads lits marks place
+      found_lookable = ready_lookable place found_at.0
 
-  pub ahead_here : i < to → Ahead heads n hints i to place → Peeked heads n id place
-  ahead_here more a = rw e (a.peeked more)
+      pub hint_some : (clause : List ℕ) → clause ≡ slice (start_at heads place) (start_at heads (place + 1)) lits → (s : Sight) → Looks clause marks s
+          → Hints heads lits n marks id (Some s) (turns + length clause)
+      hint_some clause is s l = record {
+        search = turns;
+        literals = length clause;
+        halvings = few;
+        short = found_short;
+        few = omega (arith, long_is, found_lookable.inside);
+        counted = refl;
+        case = hint_case place found_at.0 id found_at.1 turns (length clause) long_is s (rw is at l);
+      }
+        where
+          long_is : length clause ≡ start_at heads (place + 1) - start_at heads place
+          long_is = ap length is ∙ length-slice (start_at heads place) (start_at heads (place + 1)) lits found_lookable.inside
 
--- The answer of `look_there`.
-module _ (heads lits marks : List ℕ) (place before : ℕ) (l : Lookable heads lits marks place) (start end : ℕ) (p : start ≡ start_at heads place) (q : end ≡ start_at heads (place + 1)) where
-  part : take (end - start) (drop start lits) ≡ slice (start_at heads place) (start_at heads (place + 1)) lits
-  part = rw (p, q) (part_slice lits (start_at heads place) (start_at heads (place + 1)) l.forward l.inside)
+-- The clause at a place, as `View::clause` answers it.
+module _ (heads lits marks : List ℕ) (place : ℕ) (l : Lookable heads lits marks place) where
+  pub lookable_placed : Placed heads lits place
+  lookable_placed = record { room = l.room; ordered = l.forward; inside = l.inside }
 
-  pub there_known : Marked (take (end - start) (drop start lits)) marks
-  there_known = rw part l.known
+  pub there_known : (clause : List ℕ) → clause ≡ slice (start_at heads place) (start_at heads (place + 1)) lits → Marked clause marks
+  there_known clause is = rw is l.known
 
-  pub there_looks : (s : Sight) → Looks (take (end - start) (drop start lits)) marks s → (shown : Shown) → shown ≡ shown_of s → (length-counted : ℕ) → length-counted ≡ end - start
-      → LooksAt heads lits marks place before shown (before + length-counted)
-  there_looks s k shown e m c = record { sight = s; is = e; looks = rw part at k; counted = rw (c, p, q) }
-
-pub shown_forces : (l : Sight) (x : ℕ) → l ≡ SightForces x → Forces x ≡ shown_of l
-shown_forces l x e = sym (ap shown_of e)
+-- The ids of a part of the hints.
+pub ids_part : (hints : List ℕ) (from to : ℕ) → from ≤ to → to ≤ length hints → map half (take (to - from) (drop from hints)) ≡ ids_in hints from to
+unfolding ids_in
+ids_part hints from to forward inside = ap (map half) (part_slice hints from to forward inside)

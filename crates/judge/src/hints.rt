@@ -6,279 +6,149 @@
 // The place of a hint's clause is guessed two hints ahead and peeked at one hint ahead, before the clause of the hint in front of
 // it is looked at. So the memory where the guess and the head stand is fetched while there is something else to do, and is there
 // when it is needed. Neither takes a turn.
-ghost use Rattle.std.specs.Prelude.{◌≡◌, ◌<◌, ◌≤◌, ◌^◌, length};
+ghost use Rattle.std.specs.Prelude.{◌≡◌, ◌<◌, ◌^◌, map};
+ghost use Rattle.clauses.specs.Codes.{half};
 ghost use Rattle.clauses.specs.Store.{RoomFor, live_of};
-ghost use Rattle.clauses.specs.Finding.{Peeked};
-ghost use Rattle.judge.specs.Hints.{Ready, shown_of, Lookable, LooksAt, Hints, Forcible, ForcesOne, TakesOne, ids_in, Ahead, stops_at, how_by, Span, Takes};
+ghost use Rattle.clauses.specs.Finding.{Peeks};
+ghost use Rattle.judge.specs.Hints.{Ready, Hints, Forcible, ForcesOne, TakesOne, Ahead, Takes};
 
-use assignment::Look;
-use clauses::Found;
+use assignment::{Assignment, Look};
+use clauses::{Timed, View};
 
-// What a hint shows: its clause is not live; all its literals are false; all but one that has no value; or neither.
-#[derive(Clone, Copy)]
-pub enum Shown {
-    NotLive,
-    AllFalse,
-    Forces(u32),
-    Neither,
-}
-
-// The same, and the turns that it took to see it.
-#[derive(Clone, Copy)]
-pub struct Hinted {
-    pub shown: Shown,
-    pub turns: u64,
-}
-
-// What a look at a live clause shows.
-fn shown_by(l: Look) -> Shown
-    ensures { result ≡ shown_of l }
-{
-    match l {
-        Look::AllFalse => Shown::AllFalse,
-        Look::Forces(x) => Shown::Forces(x),
-        Look::Neither => Shown::Neither,
-    }
-}
-
-// Looks at the clause at a place of the store, behind a search of so many turns.
-fn look_there(heads: &[u32], lits: &[u32], marks: &[u8], place: usize, turns: u64) -> Hinted
-    requires lookable { Lookable heads.now lits.now marks.now place }
-    requires turns_bound { turns < 64 }
-    ensures { LooksAt heads.now lits.now marks.now place turns result.shown result.turns }
-{
-    let start = clauses::start_at(heads, place);
-    let end = clauses::start_at(heads, place + 1);
-    let l = assignment::look_at(&lits[start..end], marks);
-    let s = shown_by(l);
-    let all = turns + clauses::count(end - start);
-    Hinted {
-        shown: s,
-        turns: all,
-    }
-}
-
-// What the hint `id` shows, behind a peek that came to `place`.
-pub fn hint(heads: &[u32], n: usize, place: usize, lits: &[u32], marks: &[u8], id: u64) -> Hinted
-    requires ready { Ready heads.now lits.now n marks.now }
-    requires id_bound { id < 2 ^ 60 }
-    requires peeked { Peeked heads.now n id place }
-    ensures { Hints heads.now lits.now n marks.now id result.shown result.turns }
-{
-    let found = clauses::lookup_at(heads, n, place, id);
-    match found {
-        Found::At { place, turns } => look_there(heads, lits, marks, place, turns),
-        Found::Nowhere { turns } => Hinted {
-            shown: Shown::NotLive,
-            turns: turns,
-        },
-    }
-}
-
-// What taking one hint came to: a literal is true from now on; a conflict; its clause is not live, or neither forces a literal
-// nor is a conflict; or there is no room on the tape for what it forces.
+// What taking hints comes to, one or all of them: what they force is true from now on; or the last of them is a conflict.
 #[derive(Clone, Copy)]
 pub enum Effect {
     Forced,
     Conflict,
-    NotLive,
-    NotForced,
+}
+
+// Why no further hint is taken: the clause of this hint is not live; it neither forces a literal nor is a conflict; or there is
+// no room on the tape for what it forces.
+#[derive(Clone, Copy)]
+pub enum Fault {
+    NotLive(u64),
+    NotForced(u64),
     TooShort,
 }
 
-// The same, how many numbers are on the tape then, and the turns that it took.
-#[derive(Clone, Copy)]
-pub struct Took {
-    pub effect: Effect,
-    pub t: usize,
-    pub turns: u64,
+// What the clause `id` shows, behind a peek for it; or nothing, if it is not live.
+#[inline]
+pub fn hint(view: View, peeked: Option<usize>, marks: &[u8], id: u64) -> Timed<Option<Look>>
+    requires ready { Ready view.heads.now view.lits.now view.n marks.now }
+    requires id_bound { id < 2 ^ 60 }
+    requires peeked { Peeks view.heads.now view.n id peeked }
+    ensures { Hints view.entry.heads.now view.entry.lits.now view.entry.n marks.now id result.value result.turns }
+{
+    let found = view.lookup_at(peeked, id);
+    match found.value {
+        Some(place) => {
+            let clause = view.clause(place);
+            let look = assignment::look_at(clause, marks);
+            Timed {
+                value: Some(look),
+                turns: found.turns + clause.len() as u64,
+            }
+        }
+        None => Timed {
+            value: None,
+            turns: found.turns,
+        },
+    }
+}
+
+// The same under an assignment. (Tried: `hint` with `a.marks` where `a` is written to behind it. The proof then knows no more of
+// the marks than how many there are.)
+#[inline]
+fn hint_under(view: View, peeked: Option<usize>, a: &Assignment, id: u64) -> Timed<Option<Look>>
+    requires ready { Ready view.heads.now view.lits.now view.n a.now.marks.now }
+    requires id_bound { id < 2 ^ 60 }
+    requires peeked { Peeks view.heads.now view.n id peeked }
+    ensures { Hints view.entry.heads.now view.entry.lits.now view.entry.n a.now.marks.now id result.value result.turns }
+{
+    hint(view, peeked, a.marks, id)
 }
 
 // The literal `x`, which has no value, becomes true, if there is room on the tape.
-fn force(marks: &mut [u8], tape: &mut [u32], t: usize, x: u32, turns: u64) -> Took
-    requires { Forcible marks.old tape.old t x }
-    ensures { ForcesOne marks.old tape.old t x turns marks.new tape.new result.effect result.t result.turns }
+#[inline]
+fn force(a: &mut Assignment, x: u32) -> Result<Effect, Fault>
+    requires { Forcible a.old.marks.now a.old.tape.now a.old.t x }
+    ensures { ForcesOne a.old.marks.now a.old.tape.now a.old.t x a.new.marks.now a.new.tape.now result a.new.t }
 {
-    if tape.len() <= t {
-        return Took {
-            effect: Effect::TooShort,
-            t: t,
-            turns: turns,
-        };
+    if a.tape.len() <= a.t {
+        return Err(Fault::TooShort);
     }
-    let y = clauses::opposite(x);
-    let next = assignment::falsify(marks, tape, t, y);
-    Took {
-        effect: Effect::Forced,
-        t: next,
-        turns: turns,
-    }
+    let back = clauses::opposite(x);
+    a.falsify(back);
+    Ok(Effect::Forced)
 }
 
-// Takes the hint `id`, behind a peek that came to `place`.
+// Takes the hint `id`, behind a peek for it.
+#[inline]
 fn take_one(
-    heads: &[u32],
-    n: usize,
-    place: usize,
-    lits: &[u32],
-    marks: &mut [u8],
-    tape: &mut [u32],
-    t: usize,
+    view: View,
+    peeked: Option<usize>,
+    a: &mut Assignment,
     id: u64,
-) -> Took
-    requires ready { Ready heads.now lits.now n marks.old }
-    requires t_in_bounds { t ≤ length tape.old }
+) -> Timed<Result<Effect, Fault>>
+    requires ready { Ready view.heads.now view.lits.now view.n a.old.marks.now }
     requires id_bound { id < 2 ^ 60 }
-    requires peeked { Peeked heads.now n id place }
-    ensures { TakesOne heads.now lits.now n marks.old tape.old t id marks.new tape.new result.effect result.t result.turns }
+    requires peeked { Peeks view.heads.now view.n id peeked }
+    ensures { TakesOne view.entry.heads.now view.entry.lits.now view.entry.n a.old.marks.now a.old.tape.now a.old.t id a.new.marks.now a.new.tape.now result.value a.new.t result.turns }
 {
-    let h = hint(heads, n, place, lits, marks, id);
-    let turns = h.turns + 1;
-    let s = h.shown;
-    match s {
-        Shown::NotLive => Took {
-            effect: Effect::NotLive,
-            t: t,
-            turns: turns,
-        },
-        Shown::AllFalse => Took {
-            effect: Effect::Conflict,
-            t: t,
-            turns: turns,
-        },
-        Shown::Forces(x) => force(marks, tape, t, x, turns),
-        Shown::Neither => Took {
-            effect: Effect::NotForced,
-            t: t,
-            turns: turns,
-        },
+    let seen = hint_under(view, peeked, a, id);
+    let value = match seen.value {
+        None => Err(Fault::NotLive(id)),
+        Some(Look::AllFalse) => Ok(Effect::Conflict),
+        Some(Look::Forces(x)) => force(a, x),
+        Some(Look::Neither) => Err(Fault::NotForced(id)),
+    };
+    Timed {
+        value: value,
+        turns: seen.turns + 1,
     }
-}
-
-// What taking hints one by one came to: a conflict; a hint whose clause is not live, or that neither forces a literal nor is a
-// conflict; the hints' end, with no conflict; or no room on the tape.
-#[derive(Clone, Copy)]
-pub enum How {
-    Conflict,
-    NotLive(u64),
-    NotForced(u64),
-    Ended,
-    TooShort,
-}
-
-// The same, how many numbers are on the tape then, and the turns that it took.
-#[derive(Clone, Copy)]
-pub struct Taken {
-    pub how: How,
-    pub t: usize,
-    pub turns: u64,
-}
-
-// No hint is taken behind one with this effect.
-fn stops(e: Effect) -> bool
-    ensures { result ≡ stops_at e }
-{
-    match e {
-        Effect::Forced => false,
-        Effect::Conflict => true,
-        Effect::NotLive => true,
-        Effect::NotForced => true,
-        Effect::TooShort => true,
-    }
-}
-
-// What the hints came to where the last of them, `id`, had this effect.
-fn how_by(e: Effect, id: u64) -> How
-    ensures { result ≡ how_by e id }
-{
-    match e {
-        Effect::Forced => How::Ended,
-        Effect::Conflict => How::Conflict,
-        Effect::NotLive => How::NotLive(id),
-        Effect::NotForced => How::NotForced(id),
-        Effect::TooShort => How::TooShort,
-    }
-}
-
-// The place behind `i`, but none behind `to`.
-fn behind(i: usize, to: usize) -> usize {
-    if i < to { i + 1 } else { to }
 }
 
 // Where the clause of the `i`-th hint probably is; any place will do, as there is none behind the last hint.
-fn guess_next(guess: &[u32], hints: &[u32], i: usize, to: usize) -> usize
-    requires { to ≤ length hints.now }
-{
-    if i < to {
-        return clauses::guessed(guess, clauses::half(hints[i]));
-    }
-    0
+#[inline]
+fn guess_at(view: View, hints: &[u32], i: usize) -> usize {
+    hints
+        .get(i)
+        .map_or(0, |hint| view.guessed(clauses::half(*hint)))
 }
 
 // The place of the clause of the `i`-th hint, if it is the one guessed. Behind the last hint there is nothing to peek at.
-fn peek_next(heads: &[u32], n: usize, guessed: usize, hints: &[u32], i: usize, to: usize) -> usize
-    requires { RoomFor heads.now n × (to ≤ length hints.now) }
-    ensures { Ahead heads.now n hints.now i to result }
+#[inline]
+fn peek_at(view: View, guessed: usize, hints: &[u32], i: usize) -> Option<usize>
+    requires { RoomFor view.heads.now view.n }
+    ensures { Ahead view.entry.heads.now view.entry.n hints.now i result }
 {
-    if i < to {
-        return clauses::peek(heads, n, guessed, clauses::half(hints[i]));
-    }
-    n
+    view.peek(guessed, clauses::half(*hints.get(i)?))
 }
 
-// Takes the hints from `from` up to `to`, with `t` numbers on the tape.
-pub fn take_hints(
-    heads: &[u32],
-    n: usize,
-    guess: &[u32],
-    lits: &[u32],
-    marks: &mut [u8],
-    tape: &mut [u32],
-    t: usize,
-    hints: &[u32],
-    from: usize,
-    to: usize,
-) -> Taken
-    requires ready { Ready heads.now lits.now n marks.old }
-    requires t_in_bounds { t ≤ length tape.old }
-    requires span { Span hints.now from to }
-    ensures { Takes (live_of heads.now lits.now n) n (ids_in hints.now from to) marks.old tape.old t marks.new tape.new result.how result.t result.turns }
+// Takes the hints, one by one.
+pub fn take_hints(view: View, a: &mut Assignment, hints: &[u32]) -> Timed<Result<Effect, Fault>>
+    requires { Ready view.heads.now view.lits.now view.n a.old.marks.now }
+    ensures { Takes (live_of view.entry.heads.now view.entry.lits.now view.entry.n) view.entry.n (map half hints.now) a.old.marks.now a.old.tape.now a.old.t a.new.marks.now a.new.tape.now result.value a.new.t result.turns }
 {
-    let mut i = from;
-    let mut at = t;
     let mut turns: u64 = 0;
-    let mut ahead = peek_next(
-        heads,
-        n,
-        guess_next(guess, hints, from, to),
-        hints,
-        from,
-        to,
-    );
-    let mut near = guess_next(guess, hints, behind(from, to), to);
-    while i < to {
-        let id = clauses::half(hints[i]);
-        let place = ahead;
-        let next = i + 1;
-        ahead = peek_next(heads, n, near, hints, next, to);
-        near = guess_next(guess, hints, behind(next, to), to);
-        let r = take_one(heads, n, place, lits, marks, tape, at, id);
-        turns = clauses::plus(turns, r.turns);
-        at = r.t;
-        let e = r.effect;
-        if stops(e) {
-            let h = how_by(e, id);
-            return Taken {
-                how: h,
-                t: at,
+    let mut ahead = peek_at(view, guess_at(view, hints, 0), hints, 0);
+    let mut near = guess_at(view, hints, 1);
+    for (i, hint) in hints.iter().enumerate() {
+        let id = clauses::half(*hint);
+        let peeked = ahead;
+        ahead = peek_at(view, near, hints, i + 1);
+        near = guess_at(view, hints, i + 2);
+        let taken = take_one(view, peeked, a, id);
+        turns = clauses::plus(turns, taken.turns);
+        if !matches!(taken.value, Ok(Effect::Forced)) {
+            return Timed {
+                value: taken.value,
                 turns: turns,
             };
         }
-        i = next;
     }
-    Taken {
-        how: How::Ended,
-        t: at,
+    Timed {
+        value: Ok(Effect::Forced),
         turns: turns,
     }
 }

@@ -1,25 +1,31 @@
 -- `hints::hint` meets its contract: the clause that is found is looked at, and where none is found none is live. Assumes
 -- nothing.
 use Rattle.std.proofs.Common.{arith}
-use Rattle.judge.proofs.Hinting.{ready_searchable, found_lookable, found_short_at, hint-live, hint_not_live_lem}
+use Rattle.judge.proofs.Hinting.{found_lookable, lookable_placed, there_known, hint_some, hint_none}
 use Rattle.judge.proofs.hints.hint.Goals as goal
 
-pub lookup_at-found-requires : goal.lookup_at-found-requires
-lookup_at-found-requires c = record { searchable = ready_searchable _ _ _ _ c.requires.ready _ c.requires.id_bound; peeked = c.requires.peeked }
-
-pub look_there-requires : goal.look_there-requires
-look_there-requires c =
+pub clause-clause-requires : goal.clause-clause-requires
+clause-clause-requires c =
     let found = c.lookup_at-found.ensures in
-    record {
-      lookable = found_lookable _ _ _ _ c.requires.ready _ _ found.place found.turns (omega arith) _ _ c.in-At.is;
-      turns_bound = found_short_at _ _ _ _ c.requires.ready _ _ found.place found.turns (omega arith) _ _ c.in-At.is;
-    }
+    lookable_placed _ _ _ _ (found_lookable _ _ _ _ c.requires.ready _ _ _ found.place found.turns (omega arith) _ c.in-Some.is)
 
-pub returns-in-At : goal.returns-in-At
-returns-in-At c =
-    hint-live _ _ _ _ c.requires.ready _ _ c.lookup_at-found.ensures.place c.lookup_at-found.ensures.turns (omega arith) _ _ c.in-At.is _ _
-    c.look_there.ensures
+pub look_at-look-requires-clause-marked : goal.look_at-look-requires-clause-marked
+look_at-look-requires-clause-marked c =
+    let found = c.lookup_at-found.ensures in
+    there_known _ _ _ _ (found_lookable _ _ _ _ c.requires.ready _ _ _ found.place found.turns (omega arith) _ c.in-Some.is) _ c.clause-clause.ensures
 
-pub returns-in-Nowhere : goal.returns-in-Nowhere
-returns-in-Nowhere c =
-    hint_not_live_lem _ _ _ _ c.requires.ready _ _ c.lookup_at-found.ensures.place c.lookup_at-found.ensures.turns (omega arith) _ c.in-Nowhere.is
+pub overflow_add-result : goal.overflow_add-result
+overflow_add-result c =
+    let found = c.lookup_at-found.ensures in
+    let h = hint_some _ _ _ _ c.requires.ready _ _ _ found.place found.turns (omega arith) _ c.in-Some.is _ c.clause-clause.ensures _ c.look_at-look.ensures in
+    omega arith
+
+pub returns-in-Some : goal.returns-in-Some
+returns-in-Some c =
+    let found = c.lookup_at-found.ensures in
+    hint_some _ _ _ _ c.requires.ready _ _ _ found.place found.turns (omega arith) _ c.in-Some.is _ c.clause-clause.ensures _ c.look_at-look.ensures
+
+pub returns-in-None : goal.returns-in-None
+returns-in-None c =
+    let found = c.lookup_at-found.ensures in
+    hint_none _ _ _ _ c.requires.ready _ _ _ found.place found.turns (omega arith) c.in-None.is

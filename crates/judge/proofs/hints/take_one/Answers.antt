@@ -1,20 +1,17 @@
 -- `hints::take_one` meets its contract, for each thing that a hint can show. Assumes nothing.
 use Rattle.judge.proofs.Taking.{one-not-live, one_conflict, one_neither, one_forcible, one_forces}
+use Rattle.judge.proofs.hints.take_one.Goals.{in-None, in-Some-AllFalse, in-Some-Forces, in-Some-Neither}
 use Rattle.judge.proofs.hints.take_one.Goals as goal
 
-pub force-requires : goal.force-requires
-force-requires c =
-    one_forcible _ _ _ _ _ _ _ _ _ c.hint-h.ensures _ c.in-Forces.is c.requires.ready c.requires.t_in_bounds
+pub force-value-requires : goal.force-value-requires
+force-value-requires c =
+    let look = rw c.in-Some-Forces.is at c.in-Some-Forces.field-0-is in
+    one_forcible _ _ _ _ _ _ _ _ _ c.hint_under-seen.ensures _ (cc) c.requires.ready c.args.a.now.within
 
-pub returns-in-NotLive : goal.returns-in-NotLive
-returns-in-NotLive c = one-not-live _ _ _ _ _ _ _ _ _ c.hint-h.ensures c.requires.t_in_bounds c.in-NotLive.is
-
-pub returns-in-AllFalse : goal.returns-in-AllFalse
-returns-in-AllFalse c = one_conflict _ _ _ _ _ _ _ _ _ c.hint-h.ensures c.requires.t_in_bounds c.in-AllFalse.is
-
-pub returns-in-Forces : goal.returns-in-Forces
-returns-in-Forces c =
-    one_forces _ _ _ _ _ _ _ _ _ c.hint-h.ensures _ c.in-Forces.is _ _ _ _ _ c.force.ensures
-
-pub returns-in-Neither : goal.returns-in-Neither
-returns-in-Neither c = one_neither _ _ _ _ _ _ _ _ _ c.hint-h.ensures c.requires.t_in_bounds c.in-Neither.is
+pub returns : goal.returns
+returns c = elim c.match-seen.branch [
+  | in-None w ↦ rw (w.a-is, w.value-is) (one-not-live _ _ _ _ _ _ _ _ _ c.hint_under-seen.ensures c.args.a.now.within w.in-None.is)
+  | in-Some-AllFalse w ↦ let look = rw w.in-Some-AllFalse.is at w.in-Some-AllFalse.field-0-is in rw (w.a-is, w.value-is) (one_conflict _ _ _ _ _ _ _ _ _ c.hint_under-seen.ensures c.args.a.now.within (cc))
+  | in-Some-Forces w ↦ let look = rw w.in-Some-Forces.is at w.in-Some-Forces.field-0-is in rw (w.a-is, w.value-is) (one_forces _ _ _ _ _ _ _ _ _ c.hint_under-seen.ensures w.in-Some-Forces.x (cc) _ _ _ _ w.force-value.ensures)
+  | in-Some-Neither w ↦ let look = rw w.in-Some-Neither.is at w.in-Some-Neither.field-0-is in rw (w.a-is, w.value-is) (one_neither _ _ _ _ _ _ _ _ _ c.hint_under-seen.ensures c.args.a.now.within (cc))
+]
