@@ -36,13 +36,6 @@ pub struct Compacted {
     pub turns: u64,
 }
 
-// A number of 64 bits, as an index.
-pub fn index(x: u64) -> usize
-    ensures { result ≡ x }
-{
-    x as usize
-}
-
 // A number of 32 bits, as an index.
 pub fn cell(x: u32) -> usize
     ensures { result ≡ x }
@@ -69,14 +62,6 @@ pub fn wide(x: u32) -> u64
     ensures { result ≡ x }
 {
     x as u64
-}
-
-// A number that fits, as one of 32 bits.
-pub fn narrow(x: u64) -> u32
-    requires { x < 2 ^ 32 }
-    ensures { result ≡ x }
-{
-    x as u32
 }
 
 // Turns and more turns, up to the greatest count.
