@@ -1,6 +1,6 @@
 -- Laws of making the literals of a clause false: taken one by one, each under the assignment that those before it left, they
 -- say whether one is true or two are opposites. Assumes nothing.
-use Rattle.std.proofs.Common.{ℕ, suc, ◌+◌, ◌^◌, ◌<◌, ◌≤◌, ◌≡◌, Bool, true, false, ◌||◌, List, [], ◌∷◌, ◌++◌, map, length, get_or, drop}
+use Rattle.std.proofs.Common.{ℕ, suc, ◌+◌, ◌^◌, ◌<◌, ◌≤◌, ◌≡◌, Bool, true, false, ◌||◌, List, [], ◌∷◌, ◌++◌, map, length, get_or, drop, Ok, Err}
 use Rattle.std.proofs.Common.{refl, sym, ap, ◌∙◌, inl, inr, ⊎_elim, true≢false, append-nil, arith, add-one, eq-eqb, ne_eqb, drop_of_length-le, drop-cons}
 use Rattle.std.proofs.Math.Bool.{false≢true}
 use Rattle.meaning.specs.Meaning.{Literal, Clause}
@@ -11,9 +11,9 @@ use Rattle.clauses.specs.Codes.{literal_of, opposite_code}
 use Rattle.clauses.proofs.Literals.{same_literal_lem}
 use Rattle.assignment.specs.Marks.{Shows, Paired, Marked, Laid, Falsifies}
 use Rattle.assignment.proofs.Marking.{laid_none, laid_join, paired_opposite, shows_same, shows_true, shows_untrue}
-use Rattle.judge.specs.Falsifying.{OneCase, FalsifiesOne, ends_at, PassedCase, OthersCase, FalsifiesOthers, ClauseCase, FalsifiesClause}
-use Rattle.judge.specs.declared.falsifying.Falsity.{Falsity}
-use Rattle.judge.specs.declared.falsifying.Falsity.TheVariants.{AllFalse, SomeTrue, TooShort}
+use Rattle.judge.specs.Falsifying.{Outcome, OneCase, FalsifiesOne, PassedCase, OthersCase, FalsifiesOthers, ClauseCase, FalsifiesClause}
+use Rattle.judge.specs.declared.falsifying.Obstacle.{Obstacle}
+use Rattle.judge.specs.declared.falsifying.Obstacle.TheVariants.{SomeTrue, TooShort}
 
 -- One by one
 
@@ -82,17 +82,17 @@ among_fallen k (l ∷ c) a = sym (among_between k (opposite l) (map opposite c) 
 -- One literal
 
 module _ (marks tape : List ℕ) (t x q : ℕ) (room : t ≤ length tape) where
-  pub one_left_out : x ≡ q → FalsifiesOne marks tape t x q marks tape AllFalse t
+  pub one_left_out : x ≡ q → FalsifiesOne marks tape t x q marks tape (Ok (tt {0})) t
   one_left_out e = record { laid = laid_none marks tape t room; few = omega arith; case = inl (e, refl) }
 
-  module _ (other : x ≡ q → ⊥) (opp y : ℕ) (p : y ≡ opp) (r : opp ≡ opposite_code x) where
-    pub one-true : (get_or marks y 0 ≡ 0 → ⊥) → FalsifiesOne marks tape t x q marks tape SomeTrue t
-    one-true d = record { laid = laid_none marks tape t room; few = omega arith; case = (other, rw (p, r) at d, refl) }
+  module _ (other : x ≡ q → ⊥) (back : ℕ) (e : back ≡ opposite_code x) where
+    pub one-true : (get_or marks back 0 ≡ 0 → ⊥) → FalsifiesOne marks tape t x q marks tape (Err SomeTrue) t
+    one-true d = record { laid = laid_none marks tape t room; few = omega arith; case = (other, rw e at d, refl) }
 
-    pub one_falls : get_or marks y 0 ≡ 0 → (marks' tape' : List ℕ) (t' : ℕ) → Falsifies marks tape t x marks' tape' t' → FalsifiesOne marks tape t x q marks' tape' AllFalse t'
-    one_falls e marks' tape' t' f = record { laid = f.laid; few = f.few; case = inr (record { other = other; free = rw (p, r) at e; shows = f.shows }) }
+    pub one_falls : get_or marks back 0 ≡ 0 → (marks' tape' : List ℕ) (t' : ℕ) → Falsifies marks tape t x marks' tape' t' → FalsifiesOne marks tape t x q marks' tape' (Ok (tt {0})) t'
+    one_falls z marks' tape' t' f = record { laid = f.laid; few = f.few; case = inr (record { other = other; free = rw e at z; shows = f.shows }) }
 
-  pub one_short : length tape ≤ t → FalsifiesOne marks tape t x q marks tape TooShort t
+  pub one_short : length tape ≤ t → FalsifiesOne marks tape t x q marks tape (Err TooShort) t
   one_short h = record { laid = laid_none marks tape t room; few = omega arith; case = (h, refl) }
 
 -- The literals that are left
@@ -148,14 +148,14 @@ module _ (clause : List ℕ) (q : ℕ) (marks₀ tape₀ : List ℕ) (t₀ : ℕ
   pub falling_known : i < length clause → get_or clause i 0 < length marks
   falling_known more = rw k.laid.differ.long (known.below i more)
 
-  pub falling_end : length clause ≤ i → FalsifiesOthers clause (without (literal_of q) (map literal_of clause)) marks₀ tape₀ t₀ marks tape AllFalse t i
+  pub falling_end : length clause ≤ i → FalsifiesOthers clause (without (literal_of q) (map literal_of clause)) marks₀ tape₀ t₀ marks tape (Ok (tt {0})) t (length clause)
   unfolding rest proves_true fallen
   falling_end h =
       let none : rest clause q i ≡ [] = rest_none clause q i h in
       record {
         laid = k.laid;
-        few = k.few;
-        so_many = omega (arith, k.within);
+        few = omega (arith, k.few, k.within);
+        so_many = refl;
         outcome = λ a s.
             let l = k.left a s in
             record {
@@ -166,46 +166,42 @@ module _ (clause : List ℕ) (q : ℕ) (marks₀ tape₀ : List ℕ) (t₀ : ℕ
             };
       }
 
-  module _ (more : i < length clause) (marks' tape' : List ℕ) (falsity : Falsity) (t' : ℕ) (one : FalsifiesOne marks tape t (get_or clause i 0) q marks' tape' falsity t') where
-    laid_both : Laid marks₀ tape₀ t₀ marks' tape' t'
-    laid_both = laid_join marks₀ tape₀ t₀ marks tape t marks' tape' t' k.laid one.laid
+  module _ (more : i < length clause) (marks' tape' : List ℕ) (t' : ℕ) where
+    laid_both : (r : Outcome) → FalsifiesOne marks tape t (get_or clause i 0) q marks' tape' r t' → Laid marks₀ tape₀ t₀ marks' tape' t'
+    laid_both r one = laid_join marks₀ tape₀ t₀ marks tape t marks' tape' t' k.laid one.laid
 
     -- A literal at which it stops.
-    stop_passed : (f : Falsity) → OneCase marks tape t (get_or clause i 0) q marks' t' f → ends_at f ≡ true → PassedCase (length clause) (length tape₀) t' i f
-    stop_passed AllFalse c y = absurd (false≢true y)
-    stop_passed SomeTrue c y = more
-    stop_passed TooShort c y = (more, omega (arith, c.0, c.1, k.laid.long))
+    stop_passed : (o : Obstacle) → OneCase marks tape t (get_or clause i 0) q marks' t' (Err o) → PassedCase (length clause) (length tape₀) t' i (Err o)
+    stop_passed SomeTrue c = more
+    stop_passed TooShort c = (more, omega (arith, c.0, c.1, k.laid.long))
 
-    stop_few : (f : Falsity) → OneCase marks tape t (get_or clause i 0) q marks' t' f → ends_at f ≡ true → t' ≤ t₀ + i
-    stop_few AllFalse c y = absurd (false≢true y)
-    stop_few SomeTrue c y = omega (arith, c.2, k.few)
-    stop_few TooShort c y = omega (arith, c.1, k.few)
+    stop_few : (o : Obstacle) → OneCase marks tape t (get_or clause i 0) q marks' t' (Err o) → t' ≤ t₀ + i
+    stop_few SomeTrue c = omega (arith, c.2, k.few)
+    stop_few TooShort c = omega (arith, c.1, k.few)
 
-    stop_outcome : (a : Trail) → Left clause q a marks i → (f : Falsity) → OneCase marks tape t (get_or clause i 0) q marks' t' f → ends_at f ≡ true
-        → OthersCase a (without (literal_of q) (map literal_of clause)) marks' f
+    stop_outcome : (a : Trail) → Left clause q a marks i → (o : Obstacle) → OneCase marks tape t (get_or clause i 0) q marks' t' (Err o)
+        → OthersCase a (without (literal_of q) (map literal_of clause)) marks' (Err o)
     unfolding rest proves_true
-    stop_outcome a l AllFalse c y = absurd (false≢true y)
-    stop_outcome a l SomeTrue c y =
+    stop_outcome a l SomeTrue c =
         sym (proves_true_lem (without (literal_of q) (map literal_of clause)) a)
         ∙ (l.same
         ∙ (ap (proves_true l.now) (rest_other clause q i more c.0)
         ∙ or_left (among (literal_of (get_or clause i 0)) l.now) _ (shows_true marks l.now l.shows (get_or clause i 0) (paired_opposite marks falling_paired (get_or clause i 0) (falling_known more)) c.1)))
-    stop_outcome a l TooShort c y = tt
+    stop_outcome a l TooShort c = tt
 
-    pub falling_stop : (b : Bool) → b ≡ ends_at falsity → b ≡ true → FalsifiesOthers clause (without (literal_of q) (map literal_of clause)) marks₀ tape₀ t₀ marks' tape' falsity t' i
-    falling_stop b ends true-there =
-        let y : ends_at falsity ≡ true = sym ends ∙ true-there in
-        record {
-          laid = laid_both;
-          few = stop_few falsity one.case y;
-          so_many = stop_passed falsity one.case y;
-          outcome = λ a s. stop_outcome a (k.left a s) falsity one.case y;
-        }
+    pub falling_stop : (o : Obstacle) → FalsifiesOne marks tape t (get_or clause i 0) q marks' tape' (Err o) t'
+        → FalsifiesOthers clause (without (literal_of q) (map literal_of clause)) marks₀ tape₀ t₀ marks' tape' (Err o) t' i
+    falling_stop o one = record {
+      laid = laid_both (Err o) one;
+      few = stop_few o one.case;
+      so_many = stop_passed o one.case;
+      outcome = λ a s. stop_outcome a (k.left a s) o one.case;
+    }
 
     -- A literal that is left out, or false now.
-    pass : (a : Trail) → Left clause q a marks i → (f : Falsity) → OneCase marks tape t (get_or clause i 0) q marks' t' f → ends_at f ≡ false → Left clause q a marks' (i + 1)
+    pass : (a : Trail) → Left clause q a marks i → OneCase marks tape t (get_or clause i 0) q marks' t' (Ok (tt {0})) → Left clause q a marks' (i + 1)
     unfolding proves_true fallen
-    pass a l AllFalse c n =
+    pass a l c =
         ⊎_elim
         (λ out.
         let less = rest_left_out clause q i more out.0 in
@@ -220,15 +216,13 @@ module _ (clause : List ℕ) (q : ℕ) (marks₀ tape₀ : List ℕ) (t₀ : ℕ
           goes = l.goes ∙ ap (fallen l.now) less;
         })
         c
-    pass a l SomeTrue c n = absurd (true≢false n)
-    pass a l TooShort c n = absurd (true≢false n)
 
-    pub falling_on : (b : Bool) → b ≡ ends_at falsity → b ≡ false → Falling clause q marks₀ tape₀ t₀ marks' tape' (i + 1) t'
-    falling_on b ends false-there = record {
-      laid = laid_both;
+    pub falling_on : FalsifiesOne marks tape t (get_or clause i 0) q marks' tape' (Ok (tt {0})) t' → Falling clause q marks₀ tape₀ t₀ marks' tape' (i + 1) t'
+    falling_on one = record {
+      laid = laid_both (Ok (tt {0})) one;
       few = omega (arith, k.few, one.few);
       within = omega arith;
-      left = λ a s. pass a (k.left a s) falsity one.case (sym ends ∙ false-there);
+      left = λ a s. pass a (k.left a s) one.case;
     }
 
 -- A whole clause
@@ -250,20 +244,20 @@ none_true (l ∷ c) = none_true c
 only_opposites : (k : Clause) → (some_true [] k || has_opposites k) ≡ has_opposites k
 only_opposites k = ap (λ (b : Bool). b || has_opposites k) (none_true k)
 
-module _ (clause marks tape : List ℕ) (t q : ℕ) (paired : Paired marks) (known : Marked clause marks) (large : 2 ^ 31 ≤ q) (marks' tape' : List ℕ) (falsity : Falsity) (t' passed : ℕ)
-    (others : FalsifiesOthers clause (without (literal_of q) (map literal_of clause)) marks tape t marks' tape' falsity t' passed) where
+module _ (clause marks tape : List ℕ) (t q : ℕ) (paired : Paired marks) (known : Marked clause marks) (large : 2 ^ 31 ≤ q) (marks' tape' : List ℕ) (r : Outcome) (t' passed : ℕ)
+    (others : FalsifiesOthers clause (without (literal_of q) (map literal_of clause)) marks tape t marks' tape' r t' passed) where
   whole : without (literal_of q) (map literal_of clause) ≡ map literal_of clause
   whole = without-none q clause (λ i l. omega (arith, known.below i l, paired.small))
 
-  clause_case : (f : Falsity) → OthersCase [] (map literal_of clause) marks' f → ClauseCase (map literal_of clause) marks' f
-  clause_case AllFalse c = record { no_opposites = sym (only_opposites (map literal_of clause)) ∙ c.none_true; shows = rw append-nil at c.shows }
-  clause_case SomeTrue c = sym (only_opposites (map literal_of clause)) ∙ c
-  clause_case TooShort c = tt
+  clause_case : (r : Outcome) → OthersCase [] (map literal_of clause) marks' r → ClauseCase (map literal_of clause) marks' r
+  clause_case (Ok u) c = record { no_opposites = sym (only_opposites (map literal_of clause)) ∙ c.none_true; shows = rw append-nil at c.shows }
+  clause_case (Err SomeTrue) c = sym (only_opposites (map literal_of clause)) ∙ c
+  clause_case (Err TooShort) c = tt
 
-  pub whole_clause : FalsifiesClause clause marks tape t marks' tape' falsity t' passed
+  pub whole_clause : FalsifiesClause clause marks tape t marks' tape' r t' passed
   whole_clause = record {
     laid = others.laid;
     few = others.few;
     so_many = others.so_many;
-    outcome = λ s. clause_case falsity (rw whole at (others.outcome [] s));
+    outcome = λ s. clause_case r (rw whole at (others.outcome [] s));
   }

@@ -1,11 +1,15 @@
 -- What making the literals of a clause false comes to, in terms of document 01's rules 1, 2 and 4 (rules' Judging).
-use Rattle.std.specs.Prelude.{ℕ, ◌+◌, ◌<◌, ◌≤◌, ◌≡◌, ◌⊎◌, Bool, true, false, ◌||◌, List, [], ◌∷◌, ◌++◌, map, length, get_or}
+use Rattle.std.specs.Prelude.{ℕ, ◌+◌, ◌<◌, ◌≤◌, ◌≡◌, ◌⊎◌, Bool, true, false, ◌||◌, List, [], ◌∷◌, ◌++◌, map, length, get_or, Result, Ok, Err}
 use Rattle.meaning.specs.Meaning.{Clause}
 use Rattle.rules.specs.Judging.{opposite, has_opposites, Trail, some_true}
 use Rattle.clauses.specs.Codes.{literal_of, opposite_code}
 use Rattle.assignment.specs.Marks.{Shows, Laid}
-use Rattle.judge.specs.declared.falsifying.Falsity.{Falsity}
-use Rattle.judge.specs.declared.falsifying.Falsity.TheVariants.{AllFalse, SomeTrue, TooShort}
+use Rattle.judge.specs.declared.falsifying.Obstacle.{Obstacle}
+use Rattle.judge.specs.declared.falsifying.Obstacle.TheVariants.{SomeTrue, TooShort}
+
+-- Whether literals became false, or what stopped that.
+abbrev pub Outcome : Type 0
+Outcome = Result (Unit {0}) Obstacle
 
 -- A literal other than q that was not true is false from now on.
 pub record MadeFalse (marks : List ℕ) (x q : ℕ) (marks' : List ℕ) : Type 0 where
@@ -14,57 +18,51 @@ pub record MadeFalse (marks : List ℕ) (x q : ℕ) (marks' : List ℕ) : Type 0
   pub shows : (a : Trail) → Shows marks a → Shows marks' (opposite (literal_of x) ∷ a)
 
 -- What making one literal false came to.
-abbrev pub OneCase : List ℕ → List ℕ → ℕ → ℕ → ℕ → List ℕ → ℕ → Falsity → Type 0
-OneCase marks tape t x q marks' t' AllFalse = ((x ≡ q) × (marks' ≡ marks)) ⊎ MadeFalse marks x q marks'
-OneCase marks tape t x q marks' t' SomeTrue = (x ≡ q → ⊥) × (get_or marks (opposite_code x) 0 ≡ 0 → ⊥) × (t' ≡ t)
-OneCase marks tape t x q marks' t' TooShort = (length tape ≤ t) × (t' ≡ t)
+abbrev pub OneCase : List ℕ → List ℕ → ℕ → ℕ → ℕ → List ℕ → ℕ → Outcome → Type 0
+OneCase marks tape t x q marks' t' (Ok u) = ((x ≡ q) × (marks' ≡ marks)) ⊎ MadeFalse marks x q marks'
+OneCase marks tape t x q marks' t' (Err SomeTrue) = (x ≡ q → ⊥) × (get_or marks (opposite_code x) 0 ≡ 0 → ⊥) × (t' ≡ t)
+OneCase marks tape t x q marks' t' (Err TooShort) = (length tape ≤ t) × (t' ≡ t)
 
-pub record FalsifiesOne (marks tape : List ℕ) (t x q : ℕ) (marks' tape' : List ℕ) (falsity : Falsity) (t' : ℕ) : Type 0 where
+pub record FalsifiesOne (marks tape : List ℕ) (t x q : ℕ) (marks' tape' : List ℕ) (r : Outcome) (t' : ℕ) : Type 0 where
   pub laid : Laid marks tape t marks' tape' t'
   pub few : t' ≤ t + 1
-  pub case : OneCase marks tape t x q marks' t' falsity
-
--- No literal is looked at behind one that came to this.
-abbrev pub ends_at : Falsity → Bool
-ends_at AllFalse = false
-ends_at SomeTrue = true
-ends_at TooShort = true
+  pub case : OneCase marks tape t x q marks' t' r
 
 -- How many literals of so many were passed.
-abbrev pub PassedCase : ℕ → ℕ → ℕ → ℕ → Falsity → Type 0
-PassedCase many room t' passed AllFalse = passed ≡ many
-PassedCase many room t' passed SomeTrue = passed < many
-PassedCase many room t' passed TooShort = (passed < many) × (room ≤ t')
+abbrev pub PassedCase : ℕ → ℕ → ℕ → ℕ → Outcome → Type 0
+PassedCase many room t' passed (Ok u) = passed ≡ many
+PassedCase many room t' passed (Err SomeTrue) = passed < many
+PassedCase many room t' passed (Err TooShort) = (passed < many) × (room ≤ t')
 
 -- The literals are false, and none of them is true under the assignment a or the opposite of another; or one is.
 pub record AllMadeFalse (a : Trail) (others : Clause) (marks' : List ℕ) : Type 0 where
   pub none_true : (some_true a others || has_opposites others) ≡ false
   pub shows : Shows marks' (map opposite others ++ a)
 
-abbrev pub OthersCase : Trail → Clause → List ℕ → Falsity → Type 0
-OthersCase a others marks' AllFalse = AllMadeFalse a others marks'
-OthersCase a others marks' SomeTrue = (some_true a others || has_opposites others) ≡ true
-OthersCase a others marks' TooShort = Unit {0}
+abbrev pub OthersCase : Trail → Clause → List ℕ → Outcome → Type 0
+OthersCase a others marks' (Ok u) = AllMadeFalse a others marks'
+OthersCase a others marks' (Err SomeTrue) = (some_true a others || has_opposites others) ≡ true
+OthersCase a others marks' (Err TooShort) = Unit {0}
 
 -- What making `others`, literals of the clause, false came to.
-pub record FalsifiesOthers (clause : List ℕ) (others : Clause) (marks tape : List ℕ) (t : ℕ) (marks' tape' : List ℕ) (falsity : Falsity) (t' passed : ℕ) : Type 0 where
+pub record FalsifiesOthers (clause : List ℕ) (others : Clause) (marks tape : List ℕ) (t : ℕ) (marks' tape' : List ℕ) (r : Outcome) (t' passed : ℕ) : Type 0 where
   pub laid : Laid marks tape t marks' tape' t'
   pub few : t' ≤ t + passed
-  pub so_many : PassedCase (length clause) (length tape) t' passed falsity
-  pub outcome : (a : Trail) → Shows marks a → OthersCase a others marks' falsity
+  pub so_many : PassedCase (length clause) (length tape) t' passed r
+  pub outcome : (a : Trail) → Shows marks a → OthersCase a others marks' r
 
 -- Where no literal has a value: all literals of the clause are false, and no two are opposites; or two are.
 pub record ClauseFalse (k : Clause) (marks' : List ℕ) : Type 0 where
   pub no_opposites : has_opposites k ≡ false
   pub shows : Shows marks' (map opposite k)
 
-abbrev pub ClauseCase : Clause → List ℕ → Falsity → Type 0
-ClauseCase k marks' AllFalse = ClauseFalse k marks'
-ClauseCase k marks' SomeTrue = has_opposites k ≡ true
-ClauseCase k marks' TooShort = Unit {0}
+abbrev pub ClauseCase : Clause → List ℕ → Outcome → Type 0
+ClauseCase k marks' (Ok u) = ClauseFalse k marks'
+ClauseCase k marks' (Err SomeTrue) = has_opposites k ≡ true
+ClauseCase k marks' (Err TooShort) = Unit {0}
 
-pub record FalsifiesClause (clause marks tape : List ℕ) (t : ℕ) (marks' tape' : List ℕ) (falsity : Falsity) (t' passed : ℕ) : Type 0 where
+pub record FalsifiesClause (clause marks tape : List ℕ) (t : ℕ) (marks' tape' : List ℕ) (r : Outcome) (t' passed : ℕ) : Type 0 where
   pub laid : Laid marks tape t marks' tape' t'
   pub few : t' ≤ t + passed
-  pub so_many : PassedCase (length clause) (length tape) t' passed falsity
-  pub outcome : Shows marks [] → ClauseCase (map literal_of clause) marks' falsity
+  pub so_many : PassedCase (length clause) (length tape) t' passed r
+  pub outcome : Shows marks [] → ClauseCase (map literal_of clause) marks' r
