@@ -2,7 +2,6 @@
 -- say whether one is true or two are opposites. Assumes nothing.
 use Rattle.std.proofs.Common.{ℕ, suc, ◌+◌, ◌^◌, ◌<◌, ◌≤◌, ◌≡◌, Bool, true, false, ◌||◌, List, [], ◌∷◌, ◌++◌, map, length, get_or, drop, Ok, Err}
 use Rattle.std.proofs.Common.{refl, sym, ap, ◌∙◌, inl, inr, ⊎_elim, true≢false, append-nil, arith, add-one, eq-eqb, ne_eqb, drop_of_length-le, drop-cons}
-use Rattle.std.proofs.Math.Bool.{false≢true}
 use Rattle.meaning.specs.Meaning.{Literal, Clause}
 use Rattle.meaning.proofs.Truth.{bool_cases, or_left}
 use Rattle.rules.specs.Judging.{opposite, same_literal, among, without, has_opposites, Trail, some_true}

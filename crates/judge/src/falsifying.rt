@@ -3,14 +3,14 @@
 //
 // The loop's turns are told by the answer: one for each literal that was passed, and one more for the literal at which it
 // stopped, if it did.
-use assignment::Assignment;
-use clauses::Timed;
-
 ghost use Rattle.std.specs.Prelude.{◌≡◌, ◌<◌, ◌≤◌, map, length};
 ghost use Rattle.rules.specs.Judging.{without};
 ghost use Rattle.clauses.specs.Codes.{literal_of};
 ghost use Rattle.assignment.specs.Marks.{Paired, Marked};
 ghost use Rattle.judge.specs.Falsifying.{FalsifiesOne, FalsifiesOthers, FalsifiesClause};
+
+use assignment::Assignment;
+use clauses::Timed;
 
 // What stops the literals of a clause from becoming false: one of them is true, or was made true by its opposite; or there is no
 // room on the tape.
