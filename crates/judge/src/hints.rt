@@ -103,7 +103,7 @@ fn take_one(
         Some(Look::Neither) => Err(Fault::NotForced(id)),
     };
     Timed {
-        value: value,
+        value,
         turns: seen.turns + 1,
     }
 }
@@ -143,12 +143,12 @@ pub fn take_hints(view: View, a: &mut Assignment, hints: &[u32]) -> Timed<Result
         if !matches!(taken.value, Ok(Effect::Forced)) {
             return Timed {
                 value: taken.value,
-                turns: turns,
+                turns,
             };
         }
     }
     Timed {
         value: Ok(Effect::Forced),
-        turns: turns,
+        turns,
     }
 }
