@@ -65,7 +65,7 @@ module _ (heads lits : List ℕ) (n : ℕ) (marks : List ℕ) (ready : Ready hea
         long : length (slice (start_at heads place) (start_at heads (place + 1)) lits) ≡ start_at heads (place + 1) - start_at heads place
         long = length-slice (start_at heads place) (start_at heads (place + 1)) lits (omega (arith, below_used, ready.store.fits))
 
-    module _ (id : ℕ) (has : id_at heads place ≡ 2 * id) (before : ℕ) where
+    module _ (id : ℕ) (has : id_at heads place ≡ 2 * id) where
       is_clause : clause_at heads lits place ≡ map literal_of (slice (start_at heads place) (start_at heads (place + 1)) lits)
       is_clause = clause_is heads lits place (start_at heads place) (start_at heads (place + 1)) refl refl
 
@@ -120,7 +120,7 @@ module _ (heads lits : List ℕ) (n : ℕ) (marks : List ℕ) (ready : Ready hea
         short = found_short;
         few = omega (arith, long_is, found_lookable.inside);
         counted = refl;
-        case = hint_case place found_at.0 id found_at.1 turns (length clause) long_is s (rw is at l);
+        case = hint_case place found_at.0 id found_at.1 (length clause) long_is s (rw is at l);
       }
         where
           long_is : length clause ≡ start_at heads (place + 1) - start_at heads place
