@@ -1,6 +1,6 @@
 -- Tokens as codes: what an item says of the token that it came from, and when one is stored. Assumes nothing.
 use Rattle.std.specs.Prelude.{Some, None, Ok, Err}
-use Rattle.std.proofs.Common.{ℕ, zero, suc, ◌+◌, ◌*◌, ◌≤◌, ◌<◌, min, ◌≡◌, refl, sym, ap, subst, ◌∙◌, true, false, List, arith, leb-true, leb, length, length-set}
+use Rattle.std.proofs.Common.{ℕ, ◌+◌, ◌*◌, ◌<◌, min, ◌≡◌, refl, sym, ap, subst, ◌∙◌, true, false, List, arith, leb-true, leb, length, length-set}
 use Rattle.std.proofs.Math.Option.{Option, none, some}
 use Rattle.meaning.specs.Meaning.{pos, neg}
 use Rattle.meaning.proofs.Truth.{bool_cases}
@@ -29,10 +29,6 @@ keeps_long x at limit before after (Ok (Some next)) h = rw (h.case.4, length-set
 keeps_long x at limit before after (Ok None) h = rw h.case.1
 keeps_long x at limit before after (Err Unreadable) h = rw h.case.1
 keeps_long x at limit before after (Err TooShort) h = rw h.case.3
-
-pub positive : (n : ℕ) → (n ≡ 0 → ⊥) → 1 ≤ n
-positive zero f = absurd (f refl)
-positive (suc n) f = omega arith
 
 -- What an item says of the token that it came from, where `item` reads such tokens and `of` says what a code stands for.
 abbrev pub Told : {A : Type 0} → (Token → Option A) → (ℕ → A) → Token → Item → Type 0

@@ -211,7 +211,7 @@ advance-literal : (n : ℕ) (t : Token) → is_letter_d t ≡ false → advance 
 unfolding advance
 advance-literal n t f = rw (f, advance)
 
-module _ (phase : Phase) (t : Found) (cells : ℕ) (lits hints : List ℕ) where
+module _ {phase : Phase} {t : Found} {cells : ℕ} {lits hints : List ℕ} where
   -- What a reader that stands at this phase knows, by the phase's kind.
   stands_is : (k : Kind) → phase.kind ≡ k → (x : Midway cells phase t lits hints) → x.sofar ≡ partial_of k phase.id x.stands.new x.stands.told
   stands_is k e x = subst (λ (k : Kind). x.sofar ≡ partial_of k phase.id x.stands.new x.stands.told) e x.stands.is
@@ -273,9 +273,9 @@ module _ (phase : Phase) (t : Found) (cells : ℕ) (lits hints : List ℕ) where
       let b = stands_begun Literals e x in
       record { new = s.new; leads = leads_from _ _ x (stands_is Literals e x) refl; is_id = b.0; fit = s.fit; placed = s.placed; noted = none-noted x b.1; below = s.below }
 
-  pub feeds_literal : (lits' : List ℕ) (r : Outcome) → phase.kind ≡ Literals → FedBy (item_of max_variable t) phase.end cells lits lits' (literal_fed phase) r
+  pub feeds_literal : {lits' : List ℕ} {r : Outcome} → phase.kind ≡ Literals → FedBy (item_of max_variable t) phase.end cells lits lits' (literal_fed phase) r
       → Feeds phase t cells lits hints lits' hints r
-  feeds_literal lits' r e fed = literal_feeds lits' r (in_literals_lem e) fed
+  feeds_literal {lits'} {r} e fed = literal_feeds lits' r (in_literals_lem e) fed
 
   -- Behind the id
 
@@ -302,8 +302,8 @@ module _ (phase : Phase) (t : Found) (cells : ℕ) (lits hints : List ℕ) where
         stands = record { new = []; told = []; is = refl; begun = refl; fit = x.stands.fit; placed = none_placed x b.1; noted = none-noted x b.2; below = tt };
       }
 
-  pub feeds_body : (lits' : List ℕ) (r : Outcome) → phase.kind ≡ Body → FedBody phase t cells lits lits' r → Feeds phase t cells lits hints lits' hints r
-  feeds_body lits' r e fed = go fed.letter fed.case
+  pub feeds_body : {lits' : List ℕ} {r : Outcome} → phase.kind ≡ Body → FedBody phase t cells lits lits' r → Feeds phase t cells lits hints lits' hints r
+  feeds_body {lits'} {r} e fed = go fed.letter fed.case
     where
       go : (b : Bool) → BodyCase b phase t cells lits lits' r → Feeds phase t cells lits hints lits' hints r
       go true h =
@@ -317,30 +317,29 @@ module _ (phase : Phase) (t : Found) (cells : ℕ) (lits hints : List ℕ) where
 
   -- The start
 
-  module _ (e : phase.kind ≡ Start) where
-    start_says : (o : Maybe ℕ) → id_within max_id t ≡ o → (x : Midway cells phase t lits hints) → IdTold x.token o
-    start_says o q x = subst (IdTold x.token) (ap (id_within max_id) (sym x.cap) ∙ q) (id_told_by x.token x.proper)
+  pub feeds_start : {r : Outcome} → phase.kind ≡ Start → FedStart phase t r → Feeds phase t cells lits hints lits hints r
+  feeds_start {r} e fed =
+      record {
+        case = subst (FeedCase phase t cells lits hints lits hints) (sym fed.is) (cases (id_within max_id t) refl);
+        at_end_lem = λ q. fed.is ∙ rw q;
+        lits_long = refl;
+        hints_long = refl;
+      }
+    where
+      says : (o : Maybe ℕ) → id_within max_id t ≡ o → (x : Midway cells phase t lits hints) → IdTold x.token o
+      says o q x = subst (IdTold x.token) (ap (id_within max_id) (sym x.cap) ∙ q) (id_told_by x.token x.proper)
 
-    start_case : (o : Maybe ℕ) → id_within max_id t ≡ o → FeedCase phase t cells lits hints lits hints (start_fed phase o)
-    start_case (Some n) q =
-        λ x.
-        let b = stands_begun Start e x in
-        let say = start_says (Some n) q x in
-        record {
-          then = got_id n;
-          is = leads_from _ _ x (stands_is Start e x) (start_next x.token n say.0);
-          stands = record { new = []; told = []; is = refl; begun = (say.1, refl, refl); fit = x.stands.fit; placed = none_placed x b.0; noted = none-noted x b.1; below = tt };
-        }
-    start_case None q = ((λ x. leads_from _ _ x (stands_is Start e x) (start_none x.token (start_says None q x))), refl, refl)
-
-    pub feeds_start : (r : Outcome) → FedStart phase t r → Feeds phase t cells lits hints lits hints r
-    feeds_start r fed =
-        record {
-          case = subst (FeedCase phase t cells lits hints lits hints) (sym fed.is) (start_case (id_within max_id t) refl);
-          at_end_lem = λ q. fed.is ∙ rw q;
-          lits_long = refl;
-          hints_long = refl;
-        }
+      cases : (o : Maybe ℕ) → id_within max_id t ≡ o → FeedCase phase t cells lits hints lits hints (start_fed phase o)
+      cases (Some n) q =
+          λ x.
+          let b = stands_begun Start e x in
+          let say = says (Some n) q x in
+          record {
+            then = got_id n;
+            is = leads_from _ _ x (stands_is Start e x) (start_next x.token n say.0);
+            stands = record { new = []; told = []; is = refl; begun = (say.1, refl, refl); fit = x.stands.fit; placed = none_placed x b.0; noted = none-noted x b.1; below = tt };
+          }
+      cases None q = ((λ x. leads_from _ _ x (stands_is Start e x) (start_none x.token (says None q x))), refl, refl)
 
   -- Hints, or ids to delete: `item` reads such tokens, `made` says what is made of one, `of` what a code stands for, and `on`
   -- and `close` what one more, and their end, make of the step.
@@ -390,10 +389,10 @@ module _ (phase : Phase) (t : Found) (cells : ℕ) (lits hints : List ℕ) where
     unfolding code_fed
     code_feeds r fed = feeds_by _ _ _ hints hints' lits hints' (code_fed phase whole) r fed code_case ending refl refl (keeps_long _ _ _ _ _ _ fed.keeps)
 
-  pub feeds_hint : phase.kind ≡ Hints → (hints' : List ℕ) (r : Outcome) (y : Item) → y ≡ item_of max_id t
+  pub feeds_hint : {hints' : List ℕ} {r : Outcome} {y : Item} → phase.kind ≡ Hints → y ≡ item_of max_id t
       → FedBy y phase.many codes hints hints' (code_fed phase (Addition phase.id phase.end phase.many)) r → Feeds phase t cells lits hints lits hints' r
   unfolding advance
-  feeds_hint e hints' r y is fed =
+  feeds_hint {hints'} {r} {y} e is fed =
       code_feeds hint hint_of (item_of max_id) hint_told (λ code q. let l = item_below max_id t code q in omega (arith, l)) (λ q. rw q)
       (λ x h. goes_on (in_hints phase.id (map literal_of x.stands.new) (map hint_of x.stands.told ++ (h ∷ []))))
       (λ x. ends (add phase.id (map literal_of x.stands.new) (map hint_of x.stands.told)))
@@ -404,10 +403,10 @@ module _ (phase : Phase) (t : Found) (cells : ℕ) (lits hints : List ℕ) where
       (λ leads x. record { new = x.stands.new; told = x.stands.told; is = leads x; is_id = stands_begun Hints e x; placed = x.stands.placed; noted = x.stands.noted; below = x.stands.below })
       hints' r (subst (λ (z : Item). FedBy z phase.many codes hints hints' (code_fed phase (Addition phase.id phase.end phase.many)) r) is fed)
 
-  pub feeds_id : phase.kind ≡ Ids → (hints' : List ℕ) (r : Outcome) (y : Item) → y ≡ id_item max_id t
+  pub feeds_id : {hints' : List ℕ} {r : Outcome} {y : Item} → phase.kind ≡ Ids → y ≡ id_item max_id t
       → FedBy y phase.many codes hints hints' (code_fed phase (Deletion phase.many)) r → Feeds phase t cells lits hints lits hints' r
   unfolding advance
-  feeds_id e hints' r y is fed =
+  feeds_id {hints'} {r} {y} e is fed =
       code_feeds clause_id half (id_item max_id) id_told (λ code q. let l = id_below max_id t code q in omega (arith, l)) (λ q. rw q)
       (λ x n. goes_on (in_ids (map half x.stands.told ++ (n ∷ []))))
       (λ x. ends (delete (map half x.stands.told)))

@@ -1,6 +1,6 @@
 -- A step that is read in part: one token more makes of `resume` what `advance` says, and the end of the tokens makes nothing
 -- of it. Assumes nothing.
-use Rattle.std.proofs.Common.{ℕ, ◌+◌, ◌≡◌, refl, sym, ap, ◌∙◌, true, false, List, [], ◌∷◌, ◌++◌, append_assoc, arith, length, length-append}
+use Rattle.std.proofs.Common.{ℕ, ◌+◌, ◌≡◌, refl, sym, ap, ◌∙◌, true, false, List, [], ◌∷◌, ◌++◌, append_assoc, append-nil, arith, length, length-append}
 use Rattle.std.proofs.Math.Option.{Option, none, some}
 use Rattle.meaning.specs.Meaning.{Clause}
 use Rattle.meaning.proofs.Truth.{bool_cases}
@@ -42,10 +42,6 @@ resume_end (in_hints n k hs) = refl
 resume_end (in_ids ids) = refl
 
 -- One token
-
-append-nil : {A : Type 0} (xs : List A) → xs ++ [] ≡ xs
-append-nil [] = refl
-append-nil (x ∷ xs) = ap (λ (l : List _). x ∷ l) (append-nil xs)
 
 -- What is to be done with items: `whole xs ts` where the items are xs, and ts stands behind their 0.
 unfoldable onward : {A : Type 0} → (List A → List Token → Option (Step × List Token)) → List A → Option (List A × List Token) → Option (Step × List Token)

@@ -4,6 +4,7 @@ use Rattle.std.proofs.Common.{ℕ, ◌+◌, ◌≤◌, ◌<◌, ◌≡◌, ◌�
 use Rattle.std.proofs.Common.{refl, sym, ap, subst, ◌∙◌, inl, inr, ⊎_elim, append_assoc, arith, ltb-true, ltb-false, length-append, length-drop, take-append-drop}
 use Rattle.std.proofs.Math.Option.{none}
 use Rattle.std.proofs.Math.ListN.{length-map}
+use Rattle.std.proofs.lemmas.List.{nil_from_length}
 use Rattle.meaning.proofs.Truth.{bool_cases, clash}
 use Rattle.rules.specs.Text.{Token, tokens}
 use Rattle.rules.specs.Steps.{add, delete, read_step}
@@ -69,10 +70,6 @@ scanned_within s at t n h r =
 
 -- How many codes are stored, and how many tokens were read.
 
-empty : (xs : List ℕ) → length xs ≡ 0 → xs ≡ []
-empty [] e = refl
-empty (x ∷ xs) e = absurd (omega arith)
-
 stored_taken : (k : Kind) (n : ℕ) (new told : List ℕ) → Begun k n new told
     → (length new + length told ≤ taken (partial_of k n new told)) × (taken (partial_of k n new told) ≤ length new + length told + 2)
 stored_taken Start n new told b = (omega (arith, ap length b.0, ap length b.1), omega arith)
@@ -104,7 +101,7 @@ reading-start cells s at used lits hints phase e h fit =
       within = h;
     })
 
-module _ (cells : ℕ) (s : List ℕ) (at used : ℕ) (lits₀ hints₀ lits hints : List ℕ) (i : ℕ) (phase : Phase) (r : Reading cells s at used lits₀ hints₀ lits hints i phase) where
+module _ {cells : ℕ} {s : List ℕ} {at used : ℕ} {lits₀ hints₀ lits hints : List ℕ} {i : ℕ} {phase : Phase} (r : Reading cells s at used lits₀ hints₀ lits hints i phase) where
   -- What is left says what all says.
   left_says : read_step (tokens (drop at s)) ≡ resume r.sofar (tokens (drop i s))
   unfolding resume
@@ -140,13 +137,7 @@ module _ (cells : ℕ) (s : List ℕ) (at used : ℕ) (lits₀ hints₀ lits hin
         within = r.within;
       }
 
-  module _ (t : Found) (n : ℕ) (scan : Scans i (drop i s) t n) (lits' hints' : List ℕ) (fed : Outcome) (feeds : Feeds phase t cells lits hints lits' hints' fed) where
-    pub reading_lits : length lits' ≡ length lits₀
-    reading_lits = feeds.lits_long ∙ lits_same
-
-    pub reading_hints : length hints' ≡ length hints₀
-    reading_hints = feeds.hints_long ∙ hints_same
-
+  module _ {t : Found} {n : ℕ} (scan : Scans i (drop i s) t n) {lits' hints' : List ℕ} {fed : Outcome} (feeds : Feeds phase t cells lits hints lits' hints' fed) where
     found_some : (fed ≡ Err Unreadable → ⊥) → Next s i t n
     found_some f = scanned_token s i t n scan (λ q. f (feeds.at_end_lem q))
 
@@ -162,7 +153,7 @@ module _ (cells : ℕ) (s : List ℕ) (at used : ℕ) (lits₀ hints₀ lits hin
     token_counts next a e = subst (Counted (taken r.sofar)) e (advance-counted r.sofar next.tok)
 
     -- More is to be read.
-    module _ (phase' : Phase) (e : fed ≡ Ok (More phase')) where
+    module _ {phase' : Phase} (e : fed ≡ Ok (More phase')) where
       pub reading_next : Next s i t n
       reading_next = found_some (λ q. let z : ◌≡◌ {A = ℕ} 0 1 = cc in omega arith)
 
@@ -182,9 +173,9 @@ module _ (cells : ℕ) (s : List ℕ) (at used : ℕ) (lits₀ hints₀ lits hin
           }
 
     -- The step is whole.
-    pub reading-added : (m end many : ℕ) → fed ≡ Ok (Addition m end many) → ReadsStep cells s at used lits₀ hints₀ lits' hints' (Ok (Added m end many n))
+    pub reading-added : {m end many : ℕ} → fed ≡ Ok (Addition m end many) → ReadsStep cells s at used lits₀ hints₀ lits' hints' (Ok (Added m end many n))
     unfolding afterwards
-    reading-added m end many e =
+    reading-added {m} {end} {many} e =
         let next = found_some (λ q. let z : ◌≡◌ {A = ℕ} 0 1 = cc in omega arith) in
         let a : Adds cells r.sofar next.tok m end many lits₀ used lits' hints₀ hints' = subst (FeedCase phase t cells lits hints lits' hints') e feeds.case (midway next) in
         record {
@@ -211,9 +202,9 @@ module _ (cells : ℕ) (s : List ℕ) (at used : ℕ) (lits₀ hints₀ lits hin
           };
         }
 
-    pub reading_deleted : (many : ℕ) → fed ≡ Ok (Deletion many) → ReadsStep cells s at used lits₀ hints₀ lits' hints' (Ok (Deleted many n))
+    pub reading_deleted : {many : ℕ} → fed ≡ Ok (Deletion many) → ReadsStep cells s at used lits₀ hints₀ lits' hints' (Ok (Deleted many n))
     unfolding afterwards
-    reading_deleted many e =
+    reading_deleted {many} e =
         let next = found_some (λ q. let z : ◌≡◌ {A = ℕ} 0 1 = cc in omega arith) in
         let d : Deletes r.sofar next.tok many lits₀ lits' hints₀ hints' = subst (FeedCase phase t cells lits hints lits' hints') e feeds.case (midway next) in
         record {
@@ -296,8 +287,8 @@ module _ (cells : ℕ) (s : List ℕ) (at used : ℕ) (lits₀ hints₀ lits hin
       nothing_read : t ≡ Nothing → i ≡ at → StepNone s at lits₀ hints₀ lits' hints' n
       nothing_read q h =
           let no_tokens : tokens (drop at s) ≡ [] = subst (λ (k : ℕ). tokens (drop k s) ≡ []) h (none_left q) in
-          let new_none : r.stands.new ≡ [] = empty r.stands.new (omega (arith, code_count.0, token-count, ap length no_tokens)) in
-          let told_none : r.stands.told ≡ [] = empty r.stands.told (omega (arith, code_count.0, token-count, ap length no_tokens)) in
+          let new_none : r.stands.new ≡ [] = nil_from_length r.stands.new (omega (arith, code_count.0, token-count, ap length no_tokens)) in
+          let told_none : r.stands.told ≡ [] = nil_from_length r.stands.told (omega (arith, code_count.0, token-count, ap length no_tokens)) in
           let bounds = scanned_within s i t n r.within scan in
           record {
             is = no_tokens;

@@ -4,8 +4,8 @@ use Rattle.std.proofs.Common.{◌-◌, length}
 use Rattle.steps.specs.Reading.{Along}
 use Rattle.steps.proofs.along.Given as goal
 
-abbrev pub invariant-loop-place : goal.invariant-loop-place
-invariant-loop-place l = Along l.s l.from l.initial.place l.limit l.initial.slots l.slots l.i l.place
+abbrev pub invariant-loop-end : goal.invariant-loop-end
+invariant-loop-end l = Along l.s l.from l.initial.place l.limit l.initial.slots l.slots l.i l.end
 
-abbrev pub decreases-loop-place : goal.decreases-loop-place
-decreases-loop-place l = length l.initial.slots - l.place
+abbrev pub decreases-loop-end : goal.decreases-loop-end
+decreases-loop-end l = length l.initial.slots - l.end
