@@ -13,8 +13,9 @@ use Rattle.clauses.specs.Codes.{literal_of, half}
 use Rattle.clauses.specs.Store.{id_at, start_at, clause_at, entry_at, live_of}
 use Rattle.clauses.proofs.Looking.{find_front, find-behind}
 use Rattle.clauses.proofs.Entries.{entry_live, entry_deleted, clause_is, live-suc, live-none, start-below}
-use Rattle.judge.specs.Hints.{Ready, ids_in, cost}
+use Rattle.judge.specs.Hints.{Ready, cost}
 use Rattle.addition.specs.Verdicts.{costs}
+use Rattle.addition.specs.Addition.{ids_of, most_turns, all_turns}
 
 module _ (m : ℕ) where
   pub costs-add : (a b : ℕ) → costs m (a + b) ≡ costs m a + costs m b
@@ -39,6 +40,11 @@ module _ (m : ℕ) where
   pub costs_least : (a : ℕ) → 70 * a ≤ costs m a
   unfolding costs
   costs_least a = omega (arith, mul_comm 70 a, mul-le-mul {n₁ = a} {m₁ = 70} {n₂ = a} {m₂ = 2 * m + 70} (omega arith) (omega arith))
+
+-- What the whole takes, where the literals of the store and those of the clause are among so many.
+pub turns_within : (n literals own codes all : ℕ) → literals ≤ all → own ≤ all → most_turns n literals own codes ≤ all_turns n all codes
+unfolding costs
+turns_within n literals own codes all h l = omega (arith, mul-le-mul {n₁ = codes} {m₁ = 2 * literals + 70} {n₂ = codes} {m₂ = 2 * all + 70} (omega arith) (omega arith))
 
 -- The clauses of a store are no longer than all its literals.
 
@@ -102,6 +108,5 @@ module _ (live : Live) (m : ℕ) (short : (id : ℕ) (c : Clause) → find id li
   cost-most (h ∷ hs) a =
       omega (arith, cost-one h hs a (costs m (length hs) - 5 * length hs) (λ b. omega (arith, cost-most hs b)), ap (costs m) (add-one (length hs)), costs_next m (length hs), cost-most hs a)
 
-pub ids-long : (hints : List ℕ) (from to : ℕ) → to ≤ length hints → length (ids_in hints from to) ≡ to - from
-unfolding ids_in
-ids-long hints from to h = length-map (slice from to hints) half ∙ length-slice from to hints h
+pub ids-long : (hints : List ℕ) → length (ids_of hints) ≡ length hints
+ids-long hints = length-map hints half

@@ -1,26 +1,21 @@
 -- `after_hints` meets its contract: K is empty, or its groups are not those that they must be, or they are judged. Assumes
 -- nothing.
-use Rattle.std.proofs.Common.{arith}
-use Rattle.addition.proofs.Adding.{rest_empty, rest_known, rest_all, rest_differ}
+use Rattle.std.proofs.Common.{sym}
+use Rattle.addition.proofs.Adding.{first_some, first-none, group_next, rest_stored, rest_empty, rest_all, rest_differ}
 use Rattle.addition.proofs.after_hints.Goals as goal
 
-pub returns-then-end-used : goal.returns-then-end-used
-returns-then-end-used c =
-    rest_empty _ _ _ _ _ c.requires.fit _ c.requires.next_group _ _ c.requires.clausal _ _ _ c.requires.t_in_bounds (omega (arith, c.if-end-used.true))
+pub match_groups-requires : goal.match_groups-requires
+match_groups-requires c = record { stored = rest_stored _ _ _ _ _ c.args.hints.now c.requires.fit c.requires.known c.args.before; next_group = group_next _ c.requires.group_at }
 
-pub opposite-q-requires : goal.opposite-q-requires
-opposite-q-requires c =
-    rest_known _ _ _ _ _ c.requires.fit _ c.requires.next_group _ _ c.requires.clausal 0 (omega (arith, c.if-end-used.false))
-
-pub judge_groups-requires : goal.judge_groups-requires
-judge_groups-requires c = record { fit = c.requires.fit; t_in_bounds = c.requires.t_in_bounds; group_at = c.requires.next_group.group }
+pub returns-in_default : goal.returns-in_default
+returns-in_default c = rest_empty _ _ _ _ _ _ c.requires.fit c.requires.known _ _ _ c.args.a.now.within (first-none _ (sym c.in_default.ensures.value))
 
 pub returns-in-All : goal.returns-in-All
 returns-in-All c =
-    rest_all _ _ _ _ _ c.requires.fit _ c.requires.next_group _ _ c.requires.clausal _ (omega (arith, c.if-end-used.false)) _ c.opposite-q.ensures _
-    c.match_groups-m.ensures _ c.in-All.is _ c.plus.ensures _ _ _ _ _ _ c.judge_groups.ensures
+    rest_all _ _ _ _ _ _ c.requires.fit c.requires.known _ _ _ (first_some _ _ (sym c.in-Some.ensures.value)) _ c.opposite-q.ensures _ c.match_groups.ensures _ c.in-All.is
+    _ c.plus.ensures _ _ _ _ _ _ _ c.judge_groups.ensures
 
 pub returns-in-Differ : goal.returns-in-Differ
 returns-in-Differ c =
-    rest_differ _ _ _ _ _ c.requires.fit _ c.requires.next_group _ _ c.requires.clausal _ (omega (arith, c.if-end-used.false)) _ c.opposite-q.ensures _
-    c.match_groups-m.ensures _ _ c.in-Differ.is _ c.plus-all.ensures _ _ c.requires.t_in_bounds
+    rest_differ _ _ _ _ _ _ c.requires.fit c.requires.known _ _ _ (first_some _ _ (sym c.in-Some.ensures.value)) _ c.opposite-q.ensures _ c.match_groups.ensures _ _ c.in-Differ.is
+    _ c.plus-in-Differ.ensures _ _ c.args.a.now.within

@@ -1,12 +1,10 @@
--- `judge_groups` meets its contract. The loop's invariant: the marks are what they were, and the groups from `at` on say what
--- all say (`Going`). The measure is what is left of the hints. Assumes nothing.
-use Rattle.std.proofs.Common.{◌-◌, length}
-use Rattle.clauses.specs.Store.{live_of}
+-- `judge_groups` meets its contract. The loop's invariant: the marks are what they were, and the groups that are left say what all
+-- say (`Going`). Assumes nothing.
+use Rattle.addition.specs.Addition.{live_in}
 use Rattle.addition.proofs.Grouping.{Going}
 use Rattle.addition.proofs.judge_groups.Given as goal
 
-abbrev pub invariant-loop-at : goal.invariant-loop-at
-invariant-loop-at l = Going (live_of l.heads l.lits l.n) l.lits l.hints l.from l.initial.marks l.initial.tape l.t l.q l.before l.marks l.tape l.at l.turns
-
-abbrev pub decreases-loop-at : goal.decreases-loop-at
-decreases-loop-at l = length l.hints - l.at
+abbrev pub invariant-loop-group : goal.invariant-loop-group
+invariant-loop-group l =
+    Going (live_in l.view) l.view.lits.now l.hints l.initial.a.marks.now l.initial.a.tape.now l.initial.a.t l.q l.before l.a.marks.now l.a.tape.now l.a.t
+    l.group-iterator.rest.now l.turns

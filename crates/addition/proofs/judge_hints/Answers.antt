@@ -1,28 +1,19 @@
 -- `judge_hints` meets its contract: a conflict or a bad hint settles it, else rule 4 does. Assumes nothing.
 use Rattle.std.proofs.Common.{arith}
-use Rattle.addition.proofs.Grouping.{group_span}
-use Rattle.addition.proofs.Adding.{hints_fit, hints_clausal, hints_ended, hints_other}
+use Rattle.addition.proofs.Adding.{hints-fine, hints_ended, hints_at_fault}
 use Rattle.addition.proofs.judge_hints.Goals as goal
 
-pub take_hints-r-requires : goal.take_hints-r-requires
-take_hints-r-requires c = record { ready = c.requires.begun.ready; t_in_bounds = c.requires.t_in_bounds; span = group_span _ _ _ c.next_group-from.ensures }
+pub returns-in-Ok-Conflict : goal.returns-in-Ok-Conflict
+returns-in-Ok-Conflict c =
+    hints-fine _ _ _ _ _ _ c.requires.begun _ c.next_group.ensures _ _ c.split_at.ensures.front c.split_at.ensures.back _ _ _ _ _ _ _ c.take_hints-taken.ensures (omega arith) _ _ _ c.plus-passed.ensures c.plus-turns.ensures
+    _ c.in-Ok-Conflict.is (rw c.in-Ok-Conflict.is at c.in-Ok-Conflict.field-0-is)
 
-pub after_hints-j-requires : goal.after_hints-j-requires
-after_hints-j-requires c = record {
-  fit = hints_fit _ _ _ _ _ _ _ c.requires.begun c.requires.clausal _ c.next_group-from.ensures _ _ _ _ _ _ _ c.take_hints-r.ensures (omega (arith, c.ranges, c.well_formed)) _
-      c.count.ensures _ c.ended.ensures c.if-ended.true;
-  t_in_bounds = c.take_hints-r.ensures.laid.room;
-  next_group = c.next_group-from.ensures;
-  clausal = hints_clausal _ _ _ _ _ _ _ c.requires.begun c.requires.clausal _ c.next_group-from.ensures _ _ _ _ _ _ _ c.take_hints-r.ensures
-      (omega (arith, c.ranges, c.well_formed)) _ c.count.ensures _ c.ended.ensures c.if-ended.true;
-}
+pub returns-in-Ok-Forced : goal.returns-in-Ok-Forced
+returns-in-Ok-Forced c =
+    hints_ended _ _ _ _ _ _ c.requires.begun _ c.next_group.ensures _ _ c.split_at.ensures.front c.split_at.ensures.back _ _ _ _ _ _ _ c.take_hints-taken.ensures (omega arith) _ _ _ c.plus-passed.ensures c.plus-turns.ensures
+    _ c.in-Ok-Forced.is (rw c.in-Ok-Forced.is at c.in-Ok-Forced.field-0-is) _ _ _ _ _ c.after_hints.ensures
 
-pub returns-then-ended : goal.returns-then-ended
-returns-then-ended c =
-    hints_ended _ _ _ _ _ _ _ c.requires.begun c.requires.clausal _ c.next_group-from.ensures _ _ _ _ _ _ _ c.take_hints-r.ensures (omega (arith, c.ranges, c.well_formed))
-    _ c.count.ensures _ c.ended.ensures c.if-ended.true _ _ _ c.plus-passed.ensures c.plus-turns.ensures _ _ _ _ c.after_hints-j.ensures
-
-pub returns : goal.returns
-returns c =
-    hints_other _ _ _ _ _ _ _ c.requires.begun c.requires.clausal _ c.next_group-from.ensures _ _ _ _ _ _ _ c.take_hints-r.ensures (omega (arith, c.ranges, c.well_formed))
-    _ c.count.ensures _ c.ended.ensures c.if-ended.false _ _ _ c.plus-passed.ensures c.plus-turns.ensures _ c.verdict_by-v.ensures
+pub returns-in-Err : goal.returns-in-Err
+returns-in-Err c =
+    hints_at_fault _ _ _ _ _ _ c.requires.begun _ c.next_group.ensures _ _ c.split_at.ensures.front c.split_at.ensures.back _ _ _ _ _ _ _ c.take_hints-taken.ensures (omega arith) _ _ _ c.plus-passed.ensures c.plus-turns.ensures
+    _ c.in-Err.is _ c.from.ensures

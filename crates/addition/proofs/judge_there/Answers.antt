@@ -1,49 +1,22 @@
--- `judge_there` meets its contract: what was marked for the group stands on the tape from `t` on, and is taken back. Assumes
--- nothing.
+-- `judge_there` meets its contract: what was marked for the group stands on the tape from where it began on, and is taken back.
+-- Assumes nothing.
 use Rattle.std.proofs.Common.{arith}
-use Rattle.judge.proofs.Hinting.{there_known}
-use Rattle.addition.proofs.Grouping.{place_ready, place_undoable, place_room, place_judged}
+use Rattle.addition.proofs.Grouping.{place_placed, place_known, place_undoable, place_judged}
 use Rattle.addition.proofs.judge_there.Goals as goal
 
-pub falsify_others-r-requires : goal.falsify_others-r-requires
-falsify_others-r-requires c = record { paired = c.requires.fit.ready.paired; marked = there_known _ _ _ _ 0 c.requires.lookable _ _ c.start_at-start.ensures c.start_at-end.ensures; t_in_bounds = c.requires.t_in_bounds }
+pub clause-requires : goal.clause-requires
+clause-requires c = place_placed _ _ _ _ c.requires.fit _ _ c.requires.place_of
 
-pub try_hints-g-requires : goal.try_hints-g-requires
-try_hints-g-requires c = record {
-  ready = place_ready _ _ _ _ _ c.requires.fit _ _ c.requires.t_in_bounds _ _ c.requires.span _ _ _ c.requires.place_of c.requires.lookable _ _ c.start_at-start.ensures
-      c.start_at-end.ensures _ _ _ _ _ c.falsify_others-r.ensures;
-  t_in_bounds = c.falsify_others-r.ensures.laid.room;
-  span = c.requires.span;
-}
+pub falsify_others-fell-requires-clause-marked : goal.falsify_others-fell-requires-clause-marked
+falsify_others-fell-requires-clause-marked c =
+    rw c.clause.ensures (place_known _ _ _ _ c.requires.fit _ _ c.requires.place_of)
 
 pub undo-back-requires : goal.undo-back-requires
 undo-back-requires c =
-    place_undoable _ _ _ _ _ c.requires.fit _ _ c.requires.t_in_bounds _ _ c.requires.span _ _ _ c.requires.place_of c.requires.lookable _ _ c.start_at-start.ensures
-    c.start_at-end.ensures _ _ _ _ _ c.falsify_others-r.ensures _ _ _ _ _ c.try_hints-g.ensures
-
-pub overflow_add-own : goal.overflow_add-own
-overflow_add-own c =
-    let few = place_room _ _ _ _ _ c.requires.fit _ _ c.requires.t_in_bounds _ _ c.requires.span _ _ _ c.requires.place_of c.requires.lookable _ _
-    c.start_at-start.ensures c.start_at-end.ensures _ _ _ _ _ c.falsify_others-r.ensures _ _ _ _ _ c.try_hints-g.ensures _
-    c.requires.turns_bound _ _ _ c.undo-back.ensures.0 c.undo-back.ensures.1 c.count.ensures c.well_formed.1.1.1.0.1 c.well_formed.1.1.1.1.1.0.1
-    c.well_formed.1.1.1.1.1.1.1.0.1 in omega (arith, few)
-
-pub overflow_add-own-2 : goal.overflow_add-own-2
-overflow_add-own-2 c =
-    let few = place_room _ _ _ _ _ c.requires.fit _ _ c.requires.t_in_bounds _ _ c.requires.span _ _ _ c.requires.place_of c.requires.lookable _ _
-    c.start_at-start.ensures c.start_at-end.ensures _ _ _ _ _ c.falsify_others-r.ensures _ _ _ _ _ c.try_hints-g.ensures _
-    c.requires.turns_bound _ _ _ c.undo-back.ensures.0 c.undo-back.ensures.1 c.count.ensures c.well_formed.1.1.1.0.1 c.well_formed.1.1.1.1.1.0.1
-    c.well_formed.1.1.1.1.1.1.1.0.1 in omega (arith, few)
-
-pub overflow_add-own-3 : goal.overflow_add-own-3
-overflow_add-own-3 c =
-    let few = place_room _ _ _ _ _ c.requires.fit _ _ c.requires.t_in_bounds _ _ c.requires.span _ _ _ c.requires.place_of c.requires.lookable _ _
-    c.start_at-start.ensures c.start_at-end.ensures _ _ _ _ _ c.falsify_others-r.ensures _ _ _ _ _ c.try_hints-g.ensures _
-    c.requires.turns_bound _ _ _ c.undo-back.ensures.0 c.undo-back.ensures.1 c.count.ensures c.well_formed.1.1.1.0.1 c.well_formed.1.1.1.1.1.0.1
-    c.well_formed.1.1.1.1.1.1.1.0.1 in omega (arith, few)
+    place_undoable _ _ _ _ c.requires.fit _ _ c.requires.place_of _ _ _ _ _ c.clause.ensures _ _ _ _ _ c.falsify_others-fell.ensures _ _ _ _ _ c.try_hints-tried.ensures
 
 pub returns : goal.returns
 returns c =
-    place_judged _ _ _ _ _ c.requires.fit _ _ c.requires.t_in_bounds _ _ c.requires.span _ _ _ c.requires.place_of c.requires.lookable _ _ c.start_at-start.ensures
-    c.start_at-end.ensures _ _ _ _ _ c.falsify_others-r.ensures _ _ _ _ _ c.try_hints-g.ensures _ c.requires.turns_bound _ _ _
-    c.undo-back.ensures.0 c.undo-back.ensures.1 c.count.ensures (omega (arith, c.ranges, c.well_formed)) _ c.plus-all.ensures
+    rw c.undo-back.ensures.tape
+    (place_judged _ _ _ _ c.requires.fit _ _ c.requires.place_of _ _ _ _ _ c.clause.ensures _ _ _ _ _ c.falsify_others-fell.ensures _ _ _ _ _ c.try_hints-tried.ensures
+    c.args.a.now.within _ c.requires.turns_bound _ _ _ c.undo-back.ensures.back c.undo-back.ensures.t c.undo-back.ensures.turns (omega arith) _ c.plus.ensures)
