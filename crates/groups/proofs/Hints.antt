@@ -1,6 +1,6 @@
 -- Laws of hints as numbers: what `leading` and `groups` of document 01 are, by the places where groups begin. Assumes nothing.
 use Rattle.std.proofs.Common.{ℕ, zero, suc, ◌+◌, ◌-◌, ◌%◌, ◌<◌, ◌≤◌, ◌≡◌, List, [], ◌∷◌, map, eqb, length, get_or, take, drop}
-use Rattle.std.proofs.Common.{refl, sym, ap, ◌∙◌, arith, add-one, eqb-true, drop_of_length-le, drop-cons}
+use Rattle.std.proofs.Common.{refl, sym, ap, ◌∙◌, arith, add-one, eqb-true, drop_of_length-le, drop-cons, length-drop, get_or-drop}
 use borrow.Author.Tests.{eqb-false}
 use Rattle.std.proofs.Math.Seq.{slice, slice-cons, slice_empty}
 use Rattle.meaning.proofs.Truth.{bool_cases}
@@ -102,15 +102,21 @@ module _ (hints : List ℕ) where
   pub leading-first : (from : ℕ) → NextGroup hints 0 from → leading (map hint_of hints) ≡ map half (take from hints)
   leading-first from n = leading_next 0 from n
 
-  -- The search for the next group.
-  pub no_group_start : (from : ℕ) → NoGroup hints from from
-  no_group_start from = record { later = omega arith; evens = λ k a b. absurd (omega arith) }
-
-  pub no_group_on : (from i : ℕ) → NoGroup hints from i → get_or hints i 0 % 2 ≡ 0 → NoGroup hints from (i + 1)
-  no_group_on from i n e = record {
-    later = omega (arith, n.later);
-    evens = λ k a b.
-        bool_cases (eqb k i)
-        (λ y. let z = eqb-true k i y in rw z e)
-        (λ m. let d = eqb-false k i m in n.evens k a (omega (arith, d)));
+  -- The search for the next group, among the hints from a place on.
+  pub next_found : (from r : ℕ) (rest : List ℕ) → from ≤ length hints → rest ≡ drop from hints → r ≤ length rest → ((k : ℕ) → k < r → get_or rest k 0 % 2 ≡ 0) → (r < length rest → get_or rest r 0 % 2 ≡ 0 → ⊥)
+      → NextGroup hints from (from + r)
+  next_found from r rest inside is most evens odd = record {
+    passed = record {
+      later = omega arith;
+      evens = λ k a b.
+          let back : from + (k - from) ≡ k = omega arith in
+          ap (λ (i : ℕ). get_or hints i 0 % 2) (sym back) ∙ (ap (λ (x : ℕ). x % 2) (sym (read (k - from))) ∙ evens (k - from) (omega arith));
+    };
+    group = record { within = omega (arith, long); begins = λ h e. odd (omega (arith, long)) (ap (λ (x : ℕ). x % 2) (read r) ∙ e) };
   }
+    where
+      long : length rest ≡ length hints - from
+      long = ap length is ∙ length-drop from hints
+
+      read : (k : ℕ) → get_or rest k 0 ≡ get_or hints (from + k) 0
+      read k = ap (λ (l : List ℕ). get_or l k 0) is ∙ get_or-drop from hints k 0

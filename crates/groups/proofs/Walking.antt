@@ -1,5 +1,5 @@
 -- The walk over the store, with the groups beside it: one clause, one group, and all of them. Assumes nothing.
-use Rattle.std.proofs.Common.{ℕ, zero, suc, ◌+◌, ◌-◌, ◌/◌, ◌%◌, ◌^◌, ◌<◌, ◌≤◌, min, ◌≡◌, Bool, true, false, List, [], ◌∷◌, ◌++◌, map, eqb, length, get_or, take, drop}
+use Rattle.std.proofs.Common.{ℕ, zero, suc, ◌+◌, ◌-◌, ◌/◌, ◌%◌, ◌^◌, ◌<◌, ◌≤◌, min, ◌≡◌, Bool, true, false, List, [], ◌∷◌, ◌++◌, map, eqb, length, get_or, drop, Result, Ok, Err}
 use Rattle.std.proofs.Common.{refl, sym, ap, subst, ◌∙◌, append_assoc, arith, add-one, eqb-true, eq-eqb, ne_eqb}
 use borrow.Author.Tests.{eqb-false}
 use Rattle.std.proofs.Math.Option.{Option, none, some}
@@ -8,14 +8,10 @@ use Rattle.meaning.proofs.Truth.{bool_cases}
 use Rattle.rules.specs.Judging.{Live, among, containing, groups, mismatch, leading}
 use Rattle.clauses.specs.Codes.{literal_of, hint_of}
 use Rattle.clauses.specs.Store.{id_at, start_at, Placed, clause_at, entry_at, live_of}
-use Rattle.clauses.proofs.Parts.{part_slice}
+use Rattle.std.proofs.Math.Seq.{slice, length-slice}
 use Rattle.clauses.specs.Moving.{Stored}
 use Rattle.clauses.proofs.Entries.{entry_live, entry_deleted, clause_is, live-suc, live-none, start-below}
-use Rattle.groups.specs.Matching.{GroupAt, NextGroup, groups_from, literals_at, literals_of, ExaminedCase, Examined, TakesGroup, PassedOn, PassedNot, PassesCase, Passes, Finishes, Comes, Walked, OneDiffers, Matches}
-use Rattle.groups.specs.declared.Passed.{Passed}
-use Rattle.groups.specs.declared.Passed.TheVariants.{On, Differs}
-use Rattle.groups.specs.declared.Matched.{Matched}
-use Rattle.groups.specs.declared.Matched.TheVariants.{All, Differ}
+use Rattle.groups.specs.Matching.{GroupAt, NextGroup, groups_from, literals_at, literals_of, ExaminedCase, Examined, TakesCase, PassesCase, Outcome, FinishesCase, Comes, Walked, Matches}
 use Rattle.groups.proofs.Hints.{groups-begin, groups_end, groups_next, groups-first}
 
 -- The clauses of a store lie within the two lists.
@@ -91,16 +87,12 @@ module _ (heads lits : List ℕ) (k q : ℕ) where
       ap (λ (l : Live). containing (literal_of q) (l ++ rest)) (entry_live heads lits k e)
       ∙ containing-not (literal_of q) (id_at heads k / 2) (clause_at heads lits k) rest (sym m)
 
-  pub examined_live : Placed heads lits k → id_at heads k % 2 ≡ 0 → (from end : ℕ) → from ≡ start_at heads k → end ≡ start_at heads (k + 1)
-      → (has : Bool) → has ≡ among (literal_of q) (map literal_of (take (end - from) (drop from lits))) → (literals : ℕ) → literals ≡ end - from
-      → Examined heads lits k q has literals
-  examined_live p e from end f t has m literals c =
-      let part : map literal_of (take (end - from) (drop from lits)) ≡ clause_at heads lits k =
-      ap (map literal_of) (part_slice lits from end (omega (arith, p.ordered)) (omega (arith, p.inside))) ∙ sym (clause_is heads lits k from end (sym f) (sym t)) in
-      record {
-        case = examined_case has e (m ∙ ap (among (literal_of q)) part);
-        counted = omega (arith, literals_live heads k e);
-      }
+  pub examined_live : Placed heads lits k → id_at heads k % 2 ≡ 0 → (clause : List ℕ) → clause ≡ slice (start_at heads k) (start_at heads (k + 1)) lits
+      → (has : Bool) → has ≡ among (literal_of q) (map literal_of clause) → Examined heads lits k q has (length clause)
+  examined_live p e clause c has m = record {
+    case = examined_case has e (m ∙ (ap (λ (xs : List ℕ). among (literal_of q) (map literal_of xs)) c ∙ ap (among (literal_of q)) (sym (clause_is heads lits k _ _ refl refl))));
+    counted = ap length c ∙ (length-slice (start_at heads k) (start_at heads (k + 1)) lits p.inside ∙ sym (literals_live heads k e));
+  }
 
 -- One group.
 
@@ -125,79 +117,61 @@ unfolding mismatch
 mismatch-none = refl
 
 module _ (hints : List ℕ) (at : ℕ) (g : GroupAt hints at) where
-  module _ (id turns : ℕ) where
-    pub take_none : length hints ≤ at → TakesGroup id hints at turns (Differs id turns)
-    take_none h = record {
-      case = record {
-        is = λ ids. ap (mismatch (id ∷ ids)) (groups_end hints at h) ∙ mismatch_short id ids;
-        counted = refl;
-      };
+  pub take_none : (id : ℕ) → length hints ≤ at → TakesCase id hints at (Err id)
+  take_none id h = λ ids. ap (mismatch (id ∷ ids)) (groups_end hints at h) ∙ mismatch_short id ids
+
+  module _ (here : at < length hints) (d : ℕ) (is_d : d ≡ get_or hints at 0 / 2) where
+    abbrev behind : List ℕ
+    behind = leading (map hint_of (drop (at + 1) hints))
+
+    begin : groups_from hints at ≡ (d, behind) ∷ groups_from hints (at + 1)
+    begin = groups-begin hints at here (g.begins here) ∙ ap (λ (x : ℕ). (x, behind) ∷ groups_from hints (at + 1)) (sym is_d)
+
+    pub take_other : (id : ℕ) → (id ≡ d → ⊥) → (id' : ℕ) → id' ≡ min id d → TakesCase id hints at (Err id')
+    take_other id n id' m = λ ids. ap (mismatch (id ∷ ids)) begin ∙ (mismatch_other id d behind ids (groups_from hints (at + 1)) n ∙ ap some (sym m))
+
+    pub take_same : (id : ℕ) → id ≡ d → (next : ℕ) → NextGroup hints (at + 1) next → TakesCase id hints at (Ok next)
+    take_same id e next n = record {
+      is = λ ids. ap (mismatch (id ∷ ids)) begin ∙ (mismatch_same id d behind ids (groups_from hints (at + 1)) e ∙ ap (mismatch ids) (groups_next hints (at + 1) next n));
+      group = n.group;
+      later = omega (arith, n.passed.later);
     }
 
-    module _ (here : at < length hints) (d : ℕ) (is_d : d ≡ get_or hints at 0 / 2) where
-      abbrev behind : List ℕ
-      behind = leading (map hint_of (drop (at + 1) hints))
+    -- Behind the last clause.
+    pub finish_more : FinishesCase hints at (Err d)
+    finish_more = ap (mismatch []) begin ∙ mismatch-long d behind (groups_from hints (at + 1))
 
-      begin : groups_from hints at ≡ (d, behind) ∷ groups_from hints (at + 1)
-      begin = groups-begin hints at here (g.begins here) ∙ ap (λ (x : ℕ). (x, behind) ∷ groups_from hints (at + 1)) (sym is_d)
-
-      pub take_other : (id ≡ d → ⊥) → (id' : ℕ) → id' ≡ min id d → TakesGroup id hints at turns (Differs id' turns)
-      take_other n id' m = record {
-        case = record {
-          is = λ ids. ap (mismatch (id ∷ ids)) begin ∙ (mismatch_other id d behind ids (groups_from hints (at + 1)) n ∙ ap some (sym m));
-          counted = refl;
-        };
-      }
-
-      pub take_same : id ≡ d → (next passed : ℕ) → NextGroup hints (at + 1) next → passed ≡ next - at → TakesGroup id hints at turns (On next (turns + passed))
-      take_same e next passed n p = record {
-        case = record {
-          is = λ ids. ap (mismatch (id ∷ ids)) begin ∙ (mismatch_same id d behind ids (groups_from hints (at + 1)) e ∙ ap (mismatch ids) (groups_next hints (at + 1) next n));
-          group = n.group;
-          later = omega (arith, n.passed.later);
-          counted = omega arith;
-        };
-      }
-
-  -- Behind the last clause.
-  pub finish_more : at < length hints → (turns d : ℕ) → d ≡ get_or hints at 0 / 2 → Finishes hints at turns (Differ d turns)
-  finish_more h turns d e = record { case = (ap (mismatch []) (begin 0 0 h d e) ∙ mismatch-long d (behind 0 0 h d e) (groups_from hints (at + 1)), refl) }
-
-  pub finish-none : length hints ≤ at → (turns : ℕ) → Finishes hints at turns (All turns)
-  finish-none h turns = record { case = (ap (mismatch []) (groups_end hints at h) ∙ mismatch-none, (omega (arith, g.within), refl)) }
+  pub finish-none : length hints ≤ at → FinishesCase hints at (Ok (tt {0}))
+  finish-none h = (ap (mismatch []) (groups_end hints at h) ∙ mismatch-none, omega (arith, g.within))
 
 -- One clause with its group.
-module _ (heads lits : List ℕ) (k : ℕ) (hints : List ℕ) (at q turns : ℕ) (has : Bool) (literals : ℕ) (x : Examined heads lits k q has literals) where
-  pub pass-taken : has ≡ true → (r : Passed) → TakesGroup (id_at heads k / 2) hints at (turns + 1 + literals) r → Passes heads lits k hints at q turns r
-  pass-taken e (On next turns') t =
+module _ (heads lits : List ℕ) (k : ℕ) (hints : List ℕ) (at q : ℕ) (has : Bool) (literals : ℕ) (x : Examined heads lits k q has literals) where
+  pub pass-taken : has ≡ true → (next : ℕ) → TakesCase (id_at heads k / 2) hints at (Ok next) → PassesCase heads lits k hints at q (1 + literals + (next - at)) (Ok next)
+  pass-taken e next t =
       let first : ExaminedCase heads lits k q true = subst (ExaminedCase heads lits k q) e x.case in
       record {
-        case = record {
-          is = λ rest. ap (λ (l : List ℕ). mismatch l (groups_from hints at)) (first rest) ∙ t.case.is (containing (literal_of q) rest);
-          group = t.case.group;
-          later = t.case.later;
-          counted = omega (arith, t.case.counted, x.counted);
-        };
-      }
-  pass-taken e (Differs id turns') t =
-      let first : ExaminedCase heads lits k q true = subst (ExaminedCase heads lits k q) e x.case in
-      record {
-        case = record {
-          is = λ rest. ap (λ (l : List ℕ). mismatch l (groups_from hints at)) (first rest) ∙ t.case.is (containing (literal_of q) rest);
-          counted = omega (arith, t.case.counted, x.counted);
-        };
+        is = λ rest. ap (λ (l : List ℕ). mismatch l (groups_from hints at)) (first rest) ∙ t.is (containing (literal_of q) rest);
+        group = t.group;
+        later = t.later;
+        counted = omega (arith, x.counted);
       }
 
-  pub pass_over : has ≡ false → GroupAt hints at → Passes heads lits k hints at q turns (On at (turns + 1 + literals))
+  pub pass-not : has ≡ true → (id : ℕ) → TakesCase (id_at heads k / 2) hints at (Err id) → PassesCase heads lits k hints at q (1 + literals) (Err id)
+  pass-not e id t =
+      let first : ExaminedCase heads lits k q true = subst (ExaminedCase heads lits k q) e x.case in
+      record {
+        is = λ rest. ap (λ (l : List ℕ). mismatch l (groups_from hints at)) (first rest) ∙ t (containing (literal_of q) rest);
+        counted = omega (arith, x.counted);
+      }
+
+  pub pass_over : has ≡ false → GroupAt hints at → PassesCase heads lits k hints at q (1 + literals) (Ok at)
   pass_over e g =
       let none_of : ExaminedCase heads lits k q false = subst (ExaminedCase heads lits k q) e x.case in
       record {
-        case = record {
-          is = λ rest. ap (λ (l : List ℕ). mismatch l (groups_from hints at)) (none_of rest);
-          group = g;
-          later = omega arith;
-          counted = omega (arith, x.counted);
-        };
+        is = λ rest. ap (λ (l : List ℕ). mismatch l (groups_from hints at)) (none_of rest);
+        group = g;
+        later = omega arith;
+        counted = omega (arith, x.counted);
       }
 
 -- The live ones of so many clauses from the k-th on.
@@ -260,71 +234,66 @@ module _ (heads lits : List ℕ) (n : ℕ) (hints : List ℕ) (from q k at turns
   unfolding containing
   all_passed h = m.is ∙ ap (λ (l : Live). mismatch (containing (literal_of q) l) (groups_from hints at)) (live_end heads lits n k h)
 
-  pub matching_done : (r : Matched) → Finishes hints at turns r → n ≤ k → Matches heads lits n hints from q r
-  matching_done (All turns') f h =
+  pub matching_done : (r : Outcome) → FinishesCase hints at r → n ≤ k → Matches heads lits n hints from q r turns
+  matching_done (Ok u) f h =
       let z : k ≡ n = omega (arith, m.so_far) in
       record {
         case = record {
-          is = comes heads lits n hints q none (all_passed h ∙ f.case.0);
+          is = comes heads lits n hints q none (all_passed h ∙ f.0);
           walked = record {
-            later = omega (arith, m.walked.later, f.case.1.0);
+            later = omega (arith, m.walked.later, f.1);
             within = omega arith;
-            counted = omega (arith, m.walked.counted, f.case.1.0, f.case.1.1, ap (literals_of heads) z);
+            counted = omega (arith, m.walked.counted, f.1, ap (literals_of heads) z);
           };
         };
       }
-  matching_done (Differ id turns') f h =
-      record {
-        case = record {
-          is = comes heads lits n hints q (some id) (all_passed h ∙ f.case.0);
-          passed = k;
-          some_of = m.so_far;
-          at = at;
-          walked = record {
-            later = m.walked.later;
-            within = m.walked.within;
-            counted = f.case.1 ∙ m.walked.counted;
-          };
-        };
-      }
+  matching_done (Err id) f h = record {
+    case = record { is = comes heads lits n hints q (some id) (all_passed h ∙ f); passed = k; some_of = m.so_far; at = at; walked = m.walked };
+  }
 
   module _ (h : k < n) where
     -- The counter does not wrap, as long as all that there is to walk over can be counted.
-    pub matching_room : Stored heads lits n → n + length lits + length hints < 2 ^ 64 → turns + 1 + literals_at heads k + (length hints - at) < 2 ^ 64
+    pub matching_room : Stored heads lits n → n + length lits + length hints < 2 ^ 64 → turns + (1 + literals_at heads k + (length hints - at)) < 2 ^ 64
     matching_room s few =
         omega (arith, m.walked.counted, m.walked.within, m.walked.later, literals_more heads k, literals_stored heads lits n s (k + 1) (omega arith))
 
-    pub matching_on : (r : Passed) → Passes heads lits k hints at q turns r → (next turns' : ℕ) → r ≡ On next turns' → Matching heads lits n hints from q (k + 1) next turns'
-    matching_on r p next turns' e =
-        let on : PassedOn heads lits k hints at q turns next turns' = subst (PassesCase heads lits k hints at q turns) e p.case in
-        record {
-          is =
-              m.is
-              ∙ (ap (λ (l : Live). mismatch (containing (literal_of q) l) (groups_from hints at)) (live_next heads lits n k h)
-              ∙ on.is (live_from heads lits (k + 1) (n - (k + 1))));
-          group = on.group;
-          so_far = omega arith;
-          walked = record {
-            later = omega (arith, m.walked.later, on.later);
-            within = on.group.within;
-            counted = omega (arith, m.walked.counted, m.walked.later, on.later, on.counted, literals_more heads k);
-          };
-        }
+    -- One clause takes no more turns than there is room for.
+    passes_few : (taken : ℕ) (r : Result ℕ ℕ) → PassesCase heads lits k hints at q taken r → taken ≤ 1 + literals_at heads k + (length hints - at)
+    passes_few taken (Ok next) p = omega (arith, p.counted, p.later, p.group.within)
+    passes_few taken (Err id) p = omega (arith, p.counted)
 
-    pub matching_differs : (r : Passed) → Passes heads lits k hints at q turns r → (id turns' : ℕ) → r ≡ Differs id turns' → OneDiffers heads lits n hints from q id turns'
-    matching_differs r p id turns' e =
-        let off : PassedNot heads lits k hints at q turns id turns' = subst (PassesCase heads lits k hints at q turns) e p.case in
-        record {
-          is = comes heads lits n hints q (some id)
-              (m.is
-              ∙ (ap (λ (l : Live). mismatch (containing (literal_of q) l) (groups_from hints at)) (live_next heads lits n k h)
-              ∙ off.is (live_from heads lits (k + 1) (n - (k + 1)))));
-          passed = k + 1;
-          some_of = omega arith;
-          at = at;
-          walked = record {
-            later = m.walked.later;
-            within = m.walked.within;
-            counted = omega (arith, m.walked.counted, off.counted, literals_more heads k);
-          };
-        }
+    pub matching_counts : Stored heads lits n → n + length lits + length hints < 2 ^ 64 → (taken : ℕ) (r : Result ℕ ℕ) → PassesCase heads lits k hints at q taken r → turns + taken < 2 ^ 64
+    matching_counts s few taken r p = omega (arith, matching_room s few, passes_few taken r p)
+
+    pub matching_on : (next taken : ℕ) → PassesCase heads lits k hints at q taken (Ok next) → Matching heads lits n hints from q (k + 1) next (turns + taken)
+    matching_on next taken on = record {
+      is =
+          m.is
+          ∙ (ap (λ (l : Live). mismatch (containing (literal_of q) l) (groups_from hints at)) (live_next heads lits n k h)
+          ∙ on.is (live_from heads lits (k + 1) (n - (k + 1))));
+      group = on.group;
+      so_far = omega arith;
+      walked = record {
+        later = omega (arith, m.walked.later, on.later);
+        within = on.group.within;
+        counted = omega (arith, m.walked.counted, m.walked.later, on.later, on.counted, literals_more heads k);
+      };
+    }
+
+    pub matching_differs : (id taken : ℕ) → PassesCase heads lits k hints at q taken (Err id) → Matches heads lits n hints from q (Err id) (turns + taken)
+    matching_differs id taken off = record {
+      case = record {
+        is = comes heads lits n hints q (some id)
+            (m.is
+            ∙ (ap (λ (l : Live). mismatch (containing (literal_of q) l) (groups_from hints at)) (live_next heads lits n k h)
+            ∙ off.is (live_from heads lits (k + 1) (n - (k + 1)))));
+        passed = k + 1;
+        some_of = omega arith;
+        at = at;
+        walked = record {
+          later = m.walked.later;
+          within = m.walked.within;
+          counted = omega (arith, m.walked.counted, off.counted, literals_more heads k);
+        };
+      };
+    }

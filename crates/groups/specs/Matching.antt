@@ -1,14 +1,10 @@
 -- Where the groups of hints begin, and what holding them against the live clauses comes to, in terms of document 01's rule 4
 -- (rules' Judging) and of the store of live clauses (clauses' Store).
-use Rattle.std.specs.Prelude.{ℕ, zero, suc, ◌+◌, ◌-◌, ◌/◌, ◌%◌, ◌<◌, ◌≤◌, ◌≡◌, Bool, true, false, List, [], ◌∷◌, ◌++◌, map, eqb, length, get_or, drop}
+use Rattle.std.specs.Prelude.{ℕ, zero, suc, ◌+◌, ◌-◌, ◌/◌, ◌%◌, ◌<◌, ◌≤◌, ◌≡◌, Bool, true, false, List, [], ◌∷◌, ◌++◌, map, eqb, length, get_or, drop, Result, Ok, Err}
 use Rattle.std.proofs.Math.Option.{Option, none, some}
 use Rattle.rules.specs.Judging.{Live, containing, groups, mismatch}
 use Rattle.clauses.specs.Codes.{literal_of, hint_of}
 use Rattle.clauses.specs.Store.{id_at, start_at, entry_at, Holds}
-use Rattle.groups.specs.declared.Passed.{Passed}
-use Rattle.groups.specs.declared.Passed.TheVariants.{On, Differs}
-use Rattle.groups.specs.declared.Matched.{Matched}
-use Rattle.groups.specs.declared.Matched.TheVariants.{All, Differ}
 
 -- A group begins at this place, or it is the end.
 pub record GroupAt (hints : List ℕ) (at : ℕ) : Type 0 where
@@ -49,51 +45,41 @@ pub record Examined (heads lits : List ℕ) (k q : ℕ) (has : Bool) (literals :
   pub counted : literals ≡ literals_at heads k
 
 -- The group at `at` is that of the clause `id`, and the next one begins at `next`.
-pub record TookGroup (id : ℕ) (hints : List ℕ) (at turns next turns' : ℕ) : Type 0 where
+pub record TookGroup (id : ℕ) (hints : List ℕ) (at next : ℕ) : Type 0 where
   pub is : (ids : List ℕ) → mismatch (id ∷ ids) (groups_from hints at) ≡ mismatch ids (groups_from hints next)
   pub group : GroupAt hints next
   pub later : at ≤ next
-  pub counted : turns' ≡ turns + (next - at)
 
--- The group at `at` is not that of the clause `id`, or there is none.
-pub record NoSuchGroup (id : ℕ) (hints : List ℕ) (at turns id' turns' : ℕ) : Type 0 where
-  pub is : (ids : List ℕ) → mismatch (id ∷ ids) (groups_from hints at) ≡ some id'
-  pub counted : turns' ≡ turns
-
-abbrev pub TakesCase : ℕ → List ℕ → ℕ → ℕ → Passed → Type 0
-TakesCase id hints at turns (On next turns') = TookGroup id hints at turns next turns'
-TakesCase id hints at turns (Differs id' turns') = NoSuchGroup id hints at turns id' turns'
-
-pub record TakesGroup (id : ℕ) (hints : List ℕ) (at turns : ℕ) (r : Passed) : Type 0 where
-  pub case : TakesCase id hints at turns r
+-- The group at `at` is that of the clause `id`; or it is not, or there is none, and this is the id at fault.
+abbrev pub TakesCase : ℕ → List ℕ → ℕ → Result ℕ ℕ → Type 0
+TakesCase id hints at (Ok next) = TookGroup id hints at next
+TakesCase id hints at (Err id') = (ids : List ℕ) → mismatch (id ∷ ids) (groups_from hints at) ≡ some id'
 
 -- The k-th clause has its group or needs none, and the next group begins at `next`.
-pub record PassedOn (heads lits : List ℕ) (k : ℕ) (hints : List ℕ) (at q turns next turns' : ℕ) : Type 0 where
+pub record PassedOn (heads lits : List ℕ) (k : ℕ) (hints : List ℕ) (at q next turns : ℕ) : Type 0 where
   pub is : (rest : Live)
       → mismatch (containing (literal_of q) (entry_at heads lits k ++ rest)) (groups_from hints at) ≡ mismatch (containing (literal_of q) rest) (groups_from hints next)
   pub group : GroupAt hints next
   pub later : at ≤ next
-  pub counted : turns' ≡ turns + 1 + literals_at heads k + (next - at)
+  pub counted : turns ≡ 1 + literals_at heads k + (next - at)
 
 -- At the k-th clause the groups differ from those that they must be.
-pub record PassedNot (heads lits : List ℕ) (k : ℕ) (hints : List ℕ) (at q turns id turns' : ℕ) : Type 0 where
+pub record PassedNot (heads lits : List ℕ) (k : ℕ) (hints : List ℕ) (at q id turns : ℕ) : Type 0 where
   pub is : (rest : Live) → mismatch (containing (literal_of q) (entry_at heads lits k ++ rest)) (groups_from hints at) ≡ some id
-  pub counted : turns' ≡ turns + 1 + literals_at heads k
+  pub counted : turns ≡ 1 + literals_at heads k
 
-abbrev pub PassesCase : List ℕ → List ℕ → ℕ → List ℕ → ℕ → ℕ → ℕ → Passed → Type 0
-PassesCase heads lits k hints at q turns (On next turns') = PassedOn heads lits k hints at q turns next turns'
-PassesCase heads lits k hints at q turns (Differs id turns') = PassedNot heads lits k hints at q turns id turns'
+abbrev pub PassesCase : List ℕ → List ℕ → ℕ → List ℕ → ℕ → ℕ → ℕ → Result ℕ ℕ → Type 0
+PassesCase heads lits k hints at q turns (Ok next) = PassedOn heads lits k hints at q next turns
+PassesCase heads lits k hints at q turns (Err id) = PassedNot heads lits k hints at q id turns
 
-pub record Passes (heads lits : List ℕ) (k : ℕ) (hints : List ℕ) (at q turns : ℕ) (r : Passed) : Type 0 where
-  pub case : PassesCase heads lits k hints at q turns r
+-- Whether the groups are those that they must be; if not, the id at fault.
+abbrev pub Outcome : Type 0
+Outcome = Result (Unit {0}) ℕ
 
 -- Whether groups are left where no clause is.
-abbrev pub FinishesCase : List ℕ → ℕ → ℕ → Matched → Type 0
-FinishesCase hints at turns (All turns') = (mismatch [] (groups_from hints at) ≡ none) × ((at ≡ length hints) × (turns' ≡ turns))
-FinishesCase hints at turns (Differ id turns') = (mismatch [] (groups_from hints at) ≡ some id) × (turns' ≡ turns)
-
-pub record Finishes (hints : List ℕ) (at turns : ℕ) (r : Matched) : Type 0 where
-  pub case : FinishesCase hints at turns r
+abbrev pub FinishesCase : List ℕ → ℕ → Outcome → Type 0
+FinishesCase hints at (Ok u) = (mismatch [] (groups_from hints at) ≡ none) × (at ≡ length hints)
+FinishesCase hints at (Err id) = mismatch [] (groups_from hints at) ≡ some id
 
 -- Whatever live clauses the two lists hold, what comes of holding the groups against those that contain q is this.
 abbrev pub Comes : List ℕ → List ℕ → ℕ → List ℕ → ℕ → Option ℕ → Type 0
@@ -120,9 +106,9 @@ pub record OneDiffers (heads lits : List ℕ) (n : ℕ) (hints : List ℕ) (from
   pub at : ℕ
   pub walked : Walked heads hints from passed at turns
 
-abbrev pub MatchesCase : List ℕ → List ℕ → ℕ → List ℕ → ℕ → ℕ → Matched → Type 0
-MatchesCase heads lits n hints from q (All turns) = AllMatch heads lits n hints from q turns
-MatchesCase heads lits n hints from q (Differ id turns) = OneDiffers heads lits n hints from q id turns
+abbrev pub MatchesCase : List ℕ → List ℕ → ℕ → List ℕ → ℕ → ℕ → ℕ → Outcome → Type 0
+MatchesCase heads lits n hints from q turns (Ok u) = AllMatch heads lits n hints from q turns
+MatchesCase heads lits n hints from q turns (Err id) = OneDiffers heads lits n hints from q id turns
 
-pub record Matches (heads lits : List ℕ) (n : ℕ) (hints : List ℕ) (from q : ℕ) (r : Matched) : Type 0 where
-  pub case : MatchesCase heads lits n hints from q r
+pub record Matches (heads lits : List ℕ) (n : ℕ) (hints : List ℕ) (from q : ℕ) (r : Outcome) (turns : ℕ) : Type 0 where
+  pub case : MatchesCase heads lits n hints from q turns r

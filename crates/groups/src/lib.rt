@@ -3,194 +3,131 @@
 // hints of a group do is not judged here, and nothing is promised of slices that hold no store.
 #![tactic(auto)]
 
-ghost use Rattle.std.specs.Prelude.{◌≡◌, ◌||◌, map, ◌+◌, ◌-◌, ◌/◌, ◌<◌, ◌≤◌, ◌^◌, eqb, length};
+ghost use Rattle.std.specs.Prelude.{◌≡◌, map, ◌+◌, ◌-◌, ◌/◌, ◌<◌, ◌≤◌, ◌^◌, length};
 ghost use Rattle.rules.specs.Judging.{among};
 ghost use Rattle.clauses.specs.Codes.{literal_of};
 ghost use Rattle.clauses.specs.Moving.{Stored};
 ghost use Rattle.clauses.specs.Store.{Placed};
-ghost use Rattle.groups.specs.Matching.{NextGroup, GroupAt, Examined, TakesGroup, literals_at, Passes, Finishes, Matches};
+ghost use Rattle.groups.specs.Matching.{NextGroup, GroupAt, Examined, TakesCase, literals_at, PassesCase, FinishesCase, Matches};
 
-// Whether the groups are those that they must be; if not, the id at fault. And the turns that it took to find out.
-#[derive(Clone, Copy)]
-pub enum Matched {
-    All { turns: u64 },
-    Differ { id: u64, turns: u64 },
-}
+use clauses::{Timed, View};
 
-// What one clause came to: the walk goes on, with the next group at this place; or the groups differ.
-#[derive(Clone, Copy)]
-enum Passed {
-    On { at: usize, turns: u64 },
-    Differs { id: u64, turns: u64 },
-}
-
-// Whether a clause is live and contains a literal, and how many literals were looked at.
-#[derive(Clone, Copy)]
-struct Candidate {
-    has: bool,
-    literals: u64,
-}
-
-// Whether x was found before or is y.
-fn seen(found: bool, x: u32, y: u32) -> bool
-    ensures { result ≡ (found || eqb x y) }
-{
-    if x == y {
-        return true;
-    }
-    found
-}
-
-// Whether the literal x is among those of a clause. The loop takes a turn for each literal.
+// Whether the literal x is among those of a clause.
 pub fn contains(clause: &[u32], x: u32) -> bool
     ensures { result ≡ among (literal_of x) (map literal_of clause.now) }
 {
-    let mut found = false;
-    let mut i = 0;
-    while i < clause.len() {
-        found = seen(found, x, clause[i]);
-        i += 1;
-    }
-    found
+    clause.contains(&x)
 }
 
-// The first place from `from` on where a group begins, or the end. The loop takes a turn for each hint that it passes.
+// The first place from `from` on where a group begins, or the end.
 pub fn next_group(hints: &[u32], from: usize) -> usize
     requires { from ≤ length hints.now }
     ensures { NextGroup hints.now from result }
 {
-    let mut i = from;
-    while i < hints.len() {
-        if hints[i] % 2 != 0 {
-            return i;
-        }
-        i += 1;
-    }
-    i
+    let rest = &hints[from..];
+    from + rest
+        .iter()
+        .position(|hint| hint % 2 != 0)
+        .unwrap_or(rest.len())
 }
 
-// Whether the k-th clause is live and contains the literal q. The literals of a deleted clause are not looked at.
-fn examine(heads: &[u32], lits: &[u32], k: usize, q: u32) -> Candidate
-    requires { Placed heads.now lits.now k }
-    ensures { Examined heads.now lits.now k q result.has result.literals }
+// Whether the k-th clause is live and contains the literal q. The literals of a deleted clause are not looked at; the turns are
+// those of a live one's literals.
+fn examine(view: View, k: usize, q: u32) -> Timed<bool>
+    requires { Placed view.heads.now view.lits.now k }
+    ensures { Examined view.entry.heads.now view.entry.lits.now k q result.value result.turns }
 {
-    if clauses::head_at(heads, k) % 2 != 0 {
-        return Candidate {
-            has: false,
-            literals: 0,
+    if clauses::head_at(view.heads, k) % 2 != 0 {
+        return Timed {
+            value: false,
+            turns: 0,
         };
     }
-    let from = clauses::start_at(heads, k);
-    let end = clauses::start_at(heads, k + 1);
-    let has = contains(&lits[from..end], q);
-    let literals = clauses::count(end - from);
-    Candidate {
-        has: has,
-        literals: literals,
+    let clause = view.clause(k);
+    Timed {
+        value: contains(clause, q),
+        turns: clause.len() as u64,
     }
 }
 
-// The group at `at` must be that of the clause `id`. Counts a turn for each hint that is passed, the group's beginning included.
-fn take_group(id: u64, hints: &[u32], at: usize, turns: u64) -> Passed
-    requires group_at { GroupAt hints.now at }
-    requires at_bound { turns + (length hints.now - at) < 2 ^ 64 }
-    ensures { TakesGroup id hints.now at turns result }
-{
-    if hints.len() <= at {
-        return Passed::Differs {
-            id: id,
-            turns: turns,
-        };
-    }
-    let d = clauses::half(hints[at]);
-    if id != d {
-        return Passed::Differs {
-            id: clauses::smaller(id, d),
-            turns: turns,
-        };
-    }
-    let next = next_group(hints, at + 1);
-    Passed::On {
-        at: next,
-        turns: turns + clauses::count(next - at),
-    }
-}
-
-// The k-th clause: if it is live and contains q, the next group must be its group.
-fn pass(
-    heads: &[u32],
-    lits: &[u32],
-    k: usize,
-    hints: &[u32],
-    at: usize,
-    q: u32,
-    turns: u64,
-) -> Passed
-    requires placed { Placed heads.now lits.now k }
-    requires group_at { GroupAt hints.now at }
-    requires at_bound { turns + 1 + literals_at heads.now k + (length hints.now - at) < 2 ^ 64 }
-    ensures { Passes heads.now lits.now k hints.now at q turns result }
-{
-    let candidate = examine(heads, lits, k, q);
-    let more = turns + 1 + candidate.literals;
-    if candidate.has {
-        return take_group(clauses::head_at(heads, k) / 2, hints, at, more);
-    }
-    Passed::On {
-        at: at,
-        turns: more,
-    }
-}
-
-// Behind the last clause no group may be left.
-fn finish(hints: &[u32], at: usize, turns: u64) -> Matched
+// The place of the group behind that at `at`, which must be the group of the clause `id`. On Err, the id at fault.
+fn take_group(id: u64, hints: &[u32], at: usize) -> Result<usize, u64>
     requires { GroupAt hints.now at }
-    ensures { Finishes hints.now at turns result }
+    ensures { TakesCase id hints.now at result }
 {
-    if at < hints.len() {
-        return Matched::Differ {
-            id: clauses::half(hints[at]),
-            turns: turns,
-        };
+    let Some(hint) = hints.get(at) else {
+        return Err(id);
+    };
+    let d = clauses::half(*hint);
+    if id != d {
+        return Err(u64::min(id, d));
     }
-    Matched::All { turns: turns }
+    Ok(next_group(hints, at + 1))
 }
 
-// Whether the groups of the hints, of which the first begins at `from`, are those of the live clauses that contain q. Counts a
-// turn for each clause, for each literal of a live clause, and for each hint from `from` on that is passed.
-pub fn match_groups(
-    heads: &[u32],
-    lits: &[u32],
-    n: usize,
-    hints: &[u32],
-    from: usize,
-    q: u32,
-) -> Matched
-    requires stored { Stored heads.now lits.now n }
+// The k-th clause: if it is live and contains q, the next group must be its group. Comes to the place of the group behind, or to
+// the id at fault. Counts a turn for the clause, for each literal of a live one, and for each hint that is passed.
+fn pass(view: View, k: usize, hints: &[u32], at: usize, q: u32) -> Timed<Result<usize, u64>>
+    requires placed { Placed view.heads.now view.lits.now k }
+    requires group_at { GroupAt hints.now at }
+    requires at_bound { 1 + literals_at view.heads.now k + (length hints.now - at) < 2 ^ 64 }
+    ensures { PassesCase view.entry.heads.now view.entry.lits.now k hints.now at q result.turns result.value }
+{
+    let candidate = examine(view, k, q);
+    let turns = 1 + candidate.turns;
+    if !candidate.value {
+        return Timed {
+            value: Ok(at),
+            turns,
+        };
+    }
+    match take_group(clauses::head_at(view.heads, k) / 2, hints, at) {
+        Ok(next) => Timed {
+            value: Ok(next),
+            turns: turns + (next - at) as u64,
+        },
+        Err(id) => Timed {
+            value: Err(id),
+            turns,
+        },
+    }
+}
+
+// Behind the last clause no group may be left. On Err, the id of the first that is.
+fn finish(hints: &[u32], at: usize) -> Result<(), u64>
+    requires { GroupAt hints.now at }
+    ensures { FinishesCase hints.now at result }
+{
+    match hints.get(at) {
+        Some(hint) => Err(clauses::half(*hint)),
+        None => Ok(()),
+    }
+}
+
+// Whether the groups of the hints, of which the first begins at `from`, are those of the live clauses that contain q. On Err, the
+// id at fault. Counts a turn for each clause, for each literal of a live clause, and for each hint from `from` on that is passed.
+pub fn match_groups(view: View, hints: &[u32], from: usize, q: u32) -> Timed<Result<(), u64>>
+    requires stored { Stored view.heads.now view.lits.now view.n }
     requires next_group { NextGroup hints.now 0 from }
-    ensures { Matches heads.now lits.now n hints.now from q result }
+    ensures { Matches view.entry.heads.now view.entry.lits.now view.entry.n hints.now from q result.value result.turns }
 {
     let mut at = from;
     let mut turns: u64 = 0;
-    let mut k = 0;
-    while k < n {
-        let r = pass(heads, lits, k, hints, at, q, turns);
-        match r {
-            Passed::On {
-                at: next,
-                turns: taken,
-            } => {
-                at = next;
-                turns = taken;
-            }
-            Passed::Differs { id, turns: taken } => {
-                return Matched::Differ {
-                    id: id,
-                    turns: taken,
+    for k in 0..view.n {
+        let passed = pass(view, k, hints, at, q);
+        turns += passed.turns;
+        match passed.value {
+            Ok(next) => at = next,
+            Err(id) => {
+                return Timed {
+                    value: Err(id),
+                    turns,
                 };
             }
         }
-        k += 1;
     }
-    finish(hints, at, turns)
+    Timed {
+        value: finish(hints, at),
+        turns,
+    }
 }

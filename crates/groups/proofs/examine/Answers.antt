@@ -9,5 +9,4 @@ returns-then-head_at-ne0 c = examined_deleted _ _ _ _ (λ e. omega (arith, c.if-
 
 pub returns : goal.returns
 returns c =
-    examined_live _ _ _ _ c.requires (omega (arith, c.if-head_at-ne0.false, c.head_at.ensures)) _ _ c.start_at-from.ensures c.start_at-end.ensures _
-    c.contains-has.ensures _ c.count-literals.ensures
+    examined_live _ _ _ _ c.requires (omega (arith, c.if-head_at-ne0.false, c.head_at.ensures)) _ c.clause-clause.ensures _ c.contains.ensures
