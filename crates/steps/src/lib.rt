@@ -48,29 +48,36 @@ pub struct Stopped {
     pub many: usize,
 }
 
+// How far short numbers were taken: the place behind the last one in the text, and in the slice. Tried: the place in the slice
+// behind a `&mut`; it took a fiftieth more instructions where steps are short, since it cannot stay in a register.
+#[derive(Clone, Copy)]
+struct Passed {
+    next: usize,
+    end: usize,
+}
+
 // Takes short numbers one after the other from `from` on, as long as their codes are below `limit` and there is room for them
-// in the slice from `place` on, which is moved behind the last one: the place behind it in the text. Nearly all tokens of a proof
-// in use are taken here; whatever is not as expected is left to `feed`, which decides.
-// The place goes back to the caller, so it is counted by hand; tried: in `*place` it takes two instructions more for each number.
-fn along(s: &[u8], from: usize, limit: u64, slots: &mut [u32], place: &mut usize) -> usize
+// in the slice from `first` on. Nearly all tokens of a proof in use are taken here; whatever is not as expected is left to
+// `feed`, which decides.
+fn along(s: &[u8], from: usize, limit: u64, slots: &mut [u32], first: usize) -> Passed
     requires from_in_bounds { from ≤ length s.now }
     requires limit_bound { limit ≤ 2 ^ 32 }
-    ensures { Along s.now from place.old limit slots.old slots.new result place.new }
+    ensures { Along s.now from first limit slots.old slots.new result.next result.end }
 {
-    let mut i = from;
-    let mut end = *place;
+    let mut next = from;
+    let mut end = first;
+    // No `for`, which would have to tell the end of the slice from another place where it stops: both are the place that goes back.
     while end < slots.len() {
-        let r = text::short_at(s, i);
+        let r = text::short_at(s, next);
         let code = r / 16;
         if r == 0 || limit <= code {
             break;
         }
         slots[end] = code as u32;
         end += 1;
-        i += (r % 16) as usize;
+        next += (r % 16) as usize;
     }
-    *place = end;
-    i
+    Passed { next, end }
 }
 
 // A reader that stands at `from` takes the literals or hints that follow there: the place behind them.
@@ -87,14 +94,17 @@ fn go_on(
 {
     match phase.kind {
         Kind::Start | Kind::Body | Kind::Ids => from,
-        Kind::Literals => along(
-            s,
-            from,
-            (cells as u64).min(2 * MAX_VARIABLE + 2),
-            lits,
-            &mut phase.end,
-        ),
-        Kind::Hints => along(s, from, 2 * MAX_ID + 2, hints, &mut phase.many),
+        Kind::Literals => {
+            let limit = (cells as u64).min(2 * MAX_VARIABLE + 2);
+            let passed = along(s, from, limit, lits, phase.end);
+            phase.end = passed.end;
+            passed.next
+        }
+        Kind::Hints => {
+            let passed = along(s, from, 2 * MAX_ID + 2, hints, phase.many);
+            phase.many = passed.end;
+            passed.next
+        }
     }
 }
 

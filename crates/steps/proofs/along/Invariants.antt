@@ -5,7 +5,7 @@ use Rattle.steps.specs.Reading.{Along}
 use Rattle.steps.proofs.along.Given as goal
 
 abbrev pub invariant-loop-end : goal.invariant-loop-end
-invariant-loop-end l = Along l.s l.from l.initial.place l.limit l.initial.slots l.slots l.i l.end
+invariant-loop-end l = Along l.s l.from l.first l.limit l.initial.slots l.slots l.next l.end
 
 abbrev pub decreases-loop-end : goal.decreases-loop-end
 decreases-loop-end l = length l.initial.slots - l.end
