@@ -8,10 +8,10 @@ use Rattle.rules.specs.Judging.{Live}
 use Rattle.clauses.specs.Codes.{literal_of}
 use Rattle.clauses.specs.Store.{id_at, start_at, RoomFor, written, entry_at, live_of, Store, Holds}
 use Rattle.clauses.specs.Moving.{Moved, Movable, Kept, Dropped, AllMoved}
-use Rattle.clauses.proofs.Entries.{clause_is, entry_live, entry_deleted, live_more, live-none, start-below}
+use Rattle.clauses.proofs.Entries.{clause_is, entry_live, entry_deleted, live_more, start-below}
 use Rattle.clauses.proofs.Numbers.{cut}
 use Rattle.clauses.proofs.Heads.{written-long, written-ids, written_starts, written_id, written_end}
-use Rattle.clauses.proofs.Holding.{holds_empty, holds_literals, holds_more}
+use Rattle.clauses.proofs.Holding.{holds_literals, holds_more}
 
 -- The same elements are the same part.
 parts_same : (xs ys : List ℕ) (a e b f : ℕ) → e ≤ length xs → f ≤ length ys → e - a ≡ f - b
@@ -54,24 +54,6 @@ pub record Compacting (heads₀ lits₀ : List ℕ) (n : ℕ) (heads lits : List
   pub bounds : (b : ℕ) → ((i : ℕ) → i < start_at heads₀ k → get_or lits₀ i 0 < b) → (i : ℕ) → i < w → get_or lits i 0 < b
   pub larger : (i j : ℕ) → i < m → k ≤ j → j < n → id_at heads i / 2 < id_at heads₀ j / 2
   pub holds : (used last : ℕ) → Store heads₀ lits₀ n used last → Holds heads lits m w last (live_of heads₀ lits₀ k)
-
-pub compacting_start : (heads lits : List ℕ) (n used last : ℕ) → Store heads lits n used last → Compacting heads lits n heads lits 0 0 0 0
-compacting_start heads lits n used last s = record {
-  within = omega arith;
-  kept = omega arith;
-  down = omega arith;
-  level = λ e. sym s.begins;
-  moves_counted = refl;
-  heads_long = refl;
-  lits_long = refl;
-  ids_rest = λ i h. refl;
-  starts_rest = λ i h. refl;
-  lits_rest = λ i h. refl;
-  all_live = λ i h. absurd (omega arith);
-  bounds = λ b f i h. absurd (omega arith);
-  larger = λ i j h l m. absurd (omega arith);
-  holds = λ used last t. rw (live-none heads lits) (holds_empty heads lits last (omega (arith, t.room)) t.begins);
-}
 
 module _ (heads₀ lits₀ : List ℕ) (n used₀ last₀ : ℕ) (s : Store heads₀ lits₀ n used₀ last₀) (heads lits : List ℕ) (k m w moves : ℕ)
     (c : Compacting heads₀ lits₀ n heads lits k m w moves) (more : k < n) where

@@ -12,7 +12,6 @@ use Rattle.rules.specs.Answers.{numbered}
 use Rattle.clauses.specs.Codes.{literal_of}
 use Rattle.clauses.specs.Store.{id_at, start_at, RoomFor, written, marked, clause_at, entry_at, live_of, Store, Holds, clauses_of}
 use Rattle.clauses.specs.Finding.{Rising, Searchable}
-use Rattle.clauses.specs.Moving.{Stored}
 use Rattle.clauses.proofs.Entries.{
   entry_live,
   entry_deleted,
@@ -32,9 +31,6 @@ use Rattle.clauses.proofs.Looking.{remove_front, remove-behind, entry_removed, l
 -- A store meets what `find`, `lookup` and `compact` ask for.
 pub store_searchable : (heads lits : List ℕ) (n used last : ℕ) → Store heads lits n used last → (id : ℕ) → id < 2 ^ 60 → Searchable heads n id
 store_searchable heads lits n used last s id h = record { room = s.room; rising = s.rising; small = h }
-
-pub store_stored : (heads lits : List ℕ) (n used last : ℕ) → Store heads lits n used last → Stored heads lits n
-store_stored heads lits n used last s = record { used = used; last = last; store = s }
 
 -- No clause.
 pub holds_empty : (heads lits : List ℕ) (last : ℕ) → RoomFor heads 0 → start_at heads 0 ≡ 0 → Holds heads lits 0 0 last []
