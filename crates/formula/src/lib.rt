@@ -16,9 +16,9 @@ ghost use Rattle.formula.specs.Reading.{Ended, Finishes, ReadsRest, Reads};
 ghost use Rattle.formula.specs.Writing.{not_read, WritesStored, Writes};
 
 use body::Progress;
+use clauses::View;
 use opening::Header;
 use text::Token;
-use writer::Fit;
 
 // Why reading stopped: what stands in the text is not readable, or one of the parts of the store is too short for it.
 #[derive(Clone, Copy, PartialEq, Eq)]
@@ -140,23 +140,15 @@ impl From<Stopped> for NotWritten {
 
 // The formula that lies in the store goes to the output, if it fits; else the output stays as it was. Returns how many bytes
 // were written.
-fn write_stored(
-    heads: &[u32],
-    lits: &[u32],
-    n: usize,
-    vars: u64,
-    out: &mut [u8],
-) -> Result<usize, NotWritten>
-    requires { Formed heads.now lits.now n }
-    ensures { WritesStored (formula_of heads.now lits.now n vars) out.old out.new result }
+fn write_stored(view: View, vars: u64, out: &mut [u8]) -> Result<usize, NotWritten>
+    requires { Formed view.heads.now view.lits.now view.n }
+    ensures { WritesStored (formula_of view.entry.heads.now view.entry.lits.now view.entry.n vars) out.old out.new result }
 {
-    match writer::written_length(heads, lits, n, vars, out.len()) {
-        Fit::Whole { length, turns } => {
-            writer::write_formula(heads, lits, n, vars, out);
-            Ok(length)
-        }
-        Fit::TooLong { turns } => Err(NotWritten::OutputTooShort),
-    }
+    let length = writer::written_length(view, vars, out.len())
+        .value
+        .ok_or(NotWritten::OutputTooShort)?;
+    writer::write_formula(view, vars, out);
+    Ok(length)
 }
 
 // Reads a formula and writes it out: one clause to a line, no comments. Returns how many bytes were written.
@@ -169,5 +161,11 @@ pub fn write(
     ensures { Writes formula.now heads.old lits.old out.old out.new result }
 {
     let stored = read(formula, heads, lits)?;
-    write_stored(heads, lits, stored.clauses, stored.vars, out)
+    let view = View {
+        heads,
+        lits,
+        guess: &[],
+        n: stored.clauses,
+    };
+    write_stored(view, stored.vars, out)
 }

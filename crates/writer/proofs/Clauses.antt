@@ -3,7 +3,7 @@ use Rattle.std.proofs.Common.{ℕ, ◌+◌, ◌-◌, ◌*◌, ◌≤◌, ◌<◌
 use Rattle.rules.specs.Written.{write_literal, write_clause}
 use Rattle.clauses.specs.Codes.{literal_of}
 use Rattle.writer.specs.Text.{Wrote, Room, Counted, WroteCounted}
-use Rattle.writer.proofs.Texts.{Parts, Going, going_start, going_room, going_same, going_on, going_byte, going_end, room-first, byte_room}
+use Rattle.writer.proofs.Texts.{Parts, Going, going_room, going_on, going_byte, going_end, room-first, byte_room}
 
 -- The text of a clause from its i-th literal on.
 abbrev pub clause_from : List ℕ → ℕ → List ℕ
@@ -22,9 +22,6 @@ pub record Writing (before : List ℕ) (at : ℕ) (codes now : List ℕ) (place 
   pub going : Going before at (clause_from codes 0) (clause_from codes i) now place
   pub counted : Counted at place 0 turns
 
-pub writing_start : {before : List ℕ} {at : ℕ} (codes : List ℕ) → Room before at (clause_from codes 0) → Writing before at codes before at 0 0
-writing_start codes room = record { going = going_start room; counted = record { at_least = omega arith; at_most = omega arith } }
-
 module _ {before codes now : List ℕ} {at place turns i : ℕ} (w : Writing before at codes now place turns i) where
   -- All literals are written.
   pub writing_end : length codes ≤ i → Going before at (clause_from codes 0) (48 ∷ 10 ∷ []) now place
@@ -41,12 +38,6 @@ module _ {before codes now : List ℕ} {at place turns i : ℕ} (w : Writing bef
 
       pub writing_space : next < length now'
       writing_space = byte_room (going_room space)
-
-      pub writing_below : next < length before
-      writing_below = omega (arith, writing_space, going_same space)
-
-      pub writing_forward : place ≤ next
-      writing_forward = omega (arith, l.ends)
 
       pub writing_on : {now'' : List ℕ} {place' spent : ℕ} → Wrote now' next (32 ∷ []) now'' place' → spent ≡ next - place → Writing before at codes now'' place' (turns + (1 + 2 * spent)) (i + 1)
       writing_on v e = record {

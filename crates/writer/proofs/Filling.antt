@@ -1,9 +1,10 @@
 -- Digits that are filled in from the back. Assumes nothing.
-use Rattle.std.proofs.Common.{ℕ, ◌+◌, ◌-◌, ◌/◌, ◌%◌, ◌≤◌, ◌<◌, ◌≡◌, List, [], ◌∷◌, ◌++◌, length, take, drop, set, get_or}
-use Rattle.std.proofs.Common.{refl, sym, ap, ◌∙◌, append_assoc, append-nil, add-one, arith, length-set, take-append-drop, take-suc, length-take-le}
+use Rattle.std.proofs.Common.{ℕ, ◌+◌, ◌-◌, ◌/◌, ◌%◌, ◌≤◌, ◌<◌, ◌≡◌, List, [], ◌∷◌, ◌++◌, length, ltb, take, drop, set, get_or}
+use Rattle.std.proofs.Common.{refl, sym, ap, ◌∙◌, append_assoc, append-nil, ltb-true, ltb-false, add-one, arith, length-set, take-append-drop, take-suc, length-take-le}
 use Rattle.std.proofs.Math.Seq.{set_at}
+use Rattle.meaning.proofs.Truth.{bool_cases}
 use Rattle.rules.specs.Written.{decimal}
-use Rattle.writer.specs.Text.{Wrote, Filled}
+use Rattle.writer.specs.Text.{Filled}
 use Rattle.writer.proofs.Digits.{decimal_small, decimal_large, decimal-some, length_small, length_large}
 
 -- A store in front of what was written at the back.
@@ -35,8 +36,15 @@ module _ {before after : List ℕ} {at v end rest i : ℕ} (f : Filling before a
   pub filling_some : 1 ≤ i
   filling_some = omega (arith, f.place, decimal-some rest)
 
-  pub filling_inside : i - 1 < length after
-  filling_inside = omega (arith, f.same, f.within, filling_some)
+  -- The number of digits tells whether one is left beside the first.
+  pub filling_more : at + 1 < i → 10 ≤ rest
+  filling_more h = bool_cases (ltb rest 10) (λ y. absurd (omega (arith, f.place, length_small rest (ltb-true rest 10 y)))) (λ n. ltb-false rest 10 n)
+
+  pub filling_last : i ≤ at + 1 → rest < 10
+  filling_last h =
+      bool_cases (ltb rest 10)
+      (λ y. ltb-true rest 10 y)
+      (λ n. let l = ltb-false rest 10 n in absurd (omega (arith, f.place, length_large rest l, decimal-some (rest / 10))))
 
   pub filling_on : {d : ℕ} → 10 ≤ rest → d ≡ 48 + rest % 10 → Filling before at v end (set after (i - 1) d) (rest / 10) (i - 1)
   filling_on {d} h e = record {
@@ -62,11 +70,3 @@ module _ {before after : List ℕ} {at v end rest i : ℕ} (f : Filling before a
     where
       place : at + 1 ≡ i
       place = omega (arith, f.place, length_small rest h)
-
--- The first digit completes the number.
-pub filled_number : {before after : List ℕ} {at v end first d : ℕ} → Filled before at v end after first → end ≡ at + length (decimal v) → end ≤ length before
-    → d ≡ 48 + first → Wrote before at (decimal v) (set after at d) end
-filled_number {before} {after} {at} {v} {end} {first} {d} f e h g = record {
-  ends = e;
-  is = ap (λ (l : List ℕ). set l at d) f.is ∙ set_in_front before (f.digits ++ drop end before) at d (omega (arith, decimal-some v)) ∙ rw (f.all, g);
-}

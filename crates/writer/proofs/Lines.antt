@@ -1,21 +1,19 @@
 -- The first line of a formula's text. Assumes nothing.
-use Rattle.std.proofs.Common.{ℕ, ◌+◌, ◌-◌, ◌*◌, ◌≤◌, ◌<◌, ◌≡◌, refl, sym, ap, ◌∙◌, List, [], ◌∷◌, ◌++◌, append_assoc, arith, length, set, length-append}
-use Rattle.std.proofs.Math.Seq.{sets-eq}
+use Rattle.std.proofs.Common.{ℕ, ◌+◌, ◌-◌, ◌*◌, ◌≤◌, ◌<◌, ◌≡◌, refl, sym, ap, ◌∙◌, List, [], ◌∷◌, ◌++◌, append_assoc, arith, length, drop, length-append}
 use Rattle.rules.specs.Written.{decimal, write_clauses, write_formula}
 use Rattle.clauses.specs.Store.{clauses_of}
 use Rattle.writer.specs.Text.{Sized, Wrote, Room, WroteCounted, line_start, first_line, formula_of, length_of, WroteFormula, LineDigits}
 use Rattle.writer.proofs.Digits.{decimal-some}
-use Rattle.writer.proofs.Texts.{Parts, Going, going_start, going_room, going_same, going_on, going_byte, going_end, room-first, wrote_parts, byte_room}
+use Rattle.writer.proofs.Texts.{Parts, Going, going_start, going_room, going_on, going_byte, going_end, room-first, wrote_parts, byte_room}
 use Rattle.clauses.proofs.Holding.{clauses_length}
 
--- Six stores write what the line begins with.
 pub start-room : {out : List ℕ} → Room out 0 line_start → 6 ≤ length out
 unfolding line_start
 start-room r = omega (arith, r.fits)
 
-pub start_wrote : (out : List ℕ) → Room out 0 line_start → Wrote out 0 line_start (set (set (set (set (set (set out 0 112) 1 32) 2 99) 3 110) 4 102) 5 32) 6
+pub start_wrote : (out after : List ℕ) → after ≡ line_start ++ drop 6 out → Wrote out 0 line_start after 6
 unfolding line_start
-start_wrote out r = record { ends = refl; is = sets-eq line_start out 0 (omega (arith, r.fits)) }
+start_wrote out after e = record { ends = refl; is = e }
 
 -- The parts of the line.
 pub line_start_lem : (vars clauses : ℕ) → Parts (first_line vars clauses) line_start (decimal vars ++ (32 ∷ (decimal clauses ++ (10 ∷ []))))
@@ -50,13 +48,10 @@ module _ (vars clauses : ℕ) {before now : List ℕ} {first : ℕ} (room : Room
         pub feed-room : feed < length now'''
         feed-room = byte_room (going_room feeding)
 
-        pub feed-below : feed < length before
-        feed-below = omega (arith, feed-room, going_same feeding)
-
-        pub line_wrote : {after : List ℕ} {end one two : ℕ} → Wrote now''' feed (10 ∷ []) after end → one ≡ space - first → two ≡ feed - second
-            → WroteCounted before 0 (first_line vars clauses) after end 6 (2 * one + 2 * two)
+        pub line_wrote : {after : List ℕ} {end digits : ℕ} → Wrote now''' feed (10 ∷ []) after end → digits ≡ space - first + (feed - second)
+            → WroteCounted before 0 (first_line vars clauses) after end 6 (2 * digits)
         unfolding line_start
-        line_wrote f a b = record {
+        line_wrote f e = record {
           wrote = going_end feeding f;
           counted = record {
             at_least = omega (arith, w.ends, v.ends, s.ends, c.ends, f.ends, decimal-some vars, decimal-some clauses);

@@ -1,16 +1,15 @@
 -- The clauses of the store, one by one, and their texts. Assumes nothing.
-use Rattle.std.proofs.Common.{ℕ, zero, suc, ◌+◌, ◌-◌, ◌*◌, ◌≤◌, ◌<◌, ◌≡◌, List, [], ◌∷◌, ◌++◌, map, ltb, length, take, drop, get_or}
+use Rattle.std.proofs.Common.{ℕ, zero, suc, ◌+◌, ◌-◌, ◌*◌, ◌≤◌, ◌<◌, ◌≡◌, List, [], ◌∷◌, ◌++◌, map, ltb, length, drop, get_or}
 use Rattle.std.proofs.Common.{sym, ap, ◌∙◌, add-one, arith, ltb-true, ltb-false, drop_of_length-le, drop-cons}
 use Rattle.std.proofs.Math.ListN.{get_or-append}
-use Rattle.std.proofs.Math.Seq.{get_or_at}
+use Rattle.std.proofs.Math.Seq.{slice, get_or_at}
 use Rattle.meaning.proofs.Truth.{bool_cases}
 use Rattle.rules.specs.Written.{write_clause, write_clauses}
 use Rattle.clauses.specs.Codes.{literal_of}
 use Rattle.clauses.specs.Store.{start_at, Placed, clause_at, clauses_of, Store}
 use Rattle.clauses.proofs.Holding.{clauses_length}
-use Rattle.clauses.proofs.Parts.{part_slice}
 use Rattle.writer.specs.Text.{Room, Formed, Counted, WroteCounted}
-use Rattle.writer.proofs.Texts.{Parts, Going, going_start, going_room, going_same, going_on, going_end, room-first, wrote_none}
+use Rattle.writer.proofs.Texts.{Parts, Going, going_room, going_same, going_on, going_end, room-first, wrote_none}
 
 -- A store of clauses is formed as the writer asks.
 pub store_formed : {heads lits : List ℕ} {n used last : ℕ} → Store heads lits n used last → Formed heads lits n
@@ -65,10 +64,10 @@ clauses_end heads lits n k h =
     rw (drop_of_length-le (clauses_of heads lits n) past)
 
 -- The k-th clause lies in a part of the literals.
-pub stored_text : (heads lits : List ℕ) (k : ℕ) {from to : ℕ} → Placed heads lits k → from ≡ start_at heads k → to ≡ start_at heads (k + 1)
-    → write_clause (clause_at heads lits k) ≡ write_clause (map literal_of (take (to - from) (drop from lits)))
+pub stored_text : (heads lits : List ℕ) (k : ℕ) {codes : List ℕ} → codes ≡ slice (start_at heads k) (start_at heads (k + 1)) lits
+    → write_clause (clause_at heads lits k) ≡ write_clause (map literal_of codes)
 unfolding clause_at
-stored_text heads lits k p f t = rw (f, t, part_slice lits (start_at heads k) (start_at heads (k + 1)) p.ordered p.inside)
+stored_text heads lits k e = rw e
 
 -- The first k clauses are written.
 pub record WritingAll (before : List ℕ) (at : ℕ) (heads lits : List ℕ) (n : ℕ) (now : List ℕ) (place turns k : ℕ) : Type 0 where
@@ -76,17 +75,7 @@ pub record WritingAll (before : List ℕ) (at : ℕ) (heads lits : List ℕ) (n 
   pub going : Going before at (clauses_from heads lits n 0) (clauses_from heads lits n k) now place
   pub counted : Counted at place 0 turns
 
-pub all_start : {before : List ℕ} {at : ℕ} (heads lits : List ℕ) (n : ℕ) → Formed heads lits n → Room before at (clauses_from heads lits n 0) → WritingAll before at heads lits n before at 0 0
-all_start heads lits n f room = record {
-  formed = f;
-  going = going_start room;
-  counted = record { at_least = omega arith; at_most = omega arith };
-}
-
 module _ {before heads lits now : List ℕ} {at n place turns k : ℕ} (w : WritingAll before at heads lits n now place turns k) where
-  pub all_same : length now ≡ length before
-  all_same = going_same w.going
-
   pub all_end : n ≤ k → WroteCounted before at (clauses_from heads lits n 0) now place 0 turns
   all_end h = record { wrote = going_end w.going (rw (clauses_end heads lits n k h) (wrote_none now place)); counted = w.counted }
 
@@ -95,7 +84,7 @@ module _ {before heads lits now : List ℕ} {at n place turns k : ℕ} (w : Writ
     all_room = room-first (clauses_more heads lits n k h) (going_room w.going)
 
     module _ {now' : List ℕ} {end spent : ℕ} (l : WroteCounted now place (write_clause (clause_at heads lits k)) now' end 2 spent) where
-      pub all_on : WritingAll before at heads lits n now' end (turns + 1 + spent) (k + 1)
+      pub all_on : WritingAll before at heads lits n now' end (turns + (1 + spent)) (k + 1)
       all_on = record {
         formed = w.formed;
         going = going_on w.going (clauses_more heads lits n k h) l.wrote;
@@ -105,5 +94,5 @@ module _ {before heads lits now : List ℕ} {at n place turns k : ℕ} (w : Writ
         };
       }
 
-      pub all_turns_lem : turns + 1 + spent ≤ 2 * length before
+      pub all_turns_lem : turns + (1 + spent) ≤ 2 * length before
       all_turns_lem = omega (arith, all_on.counted.at_most, (going_room all_on.going).fits, going_same all_on.going)

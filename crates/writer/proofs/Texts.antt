@@ -1,16 +1,11 @@
 -- Texts in a slice, and how they join. Assumes nothing.
-use Rattle.std.proofs.Common.{ℕ, ◌+◌, ◌<◌, ◌≡◌, List, [], ◌∷◌, ◌++◌, length, take, drop, set}
-use Rattle.std.proofs.Common.{refl, sym, ap, ◌∙◌, append_assoc, add-one, arith, length-append, length-drop, take-append-drop, take_at, drop_at, drop-drop, length-take-le}
-use Rattle.std.proofs.Math.Seq.{set_split}
+use Rattle.std.proofs.Common.{ℕ, ◌<◌, ◌≡◌, List, [], ◌∷◌, ◌++◌, length, take, drop}
+use Rattle.std.proofs.Common.{refl, sym, ap, ◌∙◌, append_assoc, arith, length-append, length-drop, take-append-drop, take_at, drop_at, drop-drop, length-take-le}
 use Rattle.writer.specs.Text.{Wrote, Room, WroteCounted}
 
 -- Nothing was written.
 pub wrote_none : (before : List ℕ) (at : ℕ) → Wrote before at [] before at
 wrote_none before at = record { ends = omega arith; is = sym (take-append-drop at before) }
-
--- One byte was stored.
-pub wrote_byte : (before : List ℕ) (at b : ℕ) → at < length before → Wrote before at (b ∷ []) (set before at b) (at + 1)
-wrote_byte before at b h = record { ends = refl; is = rw (add-one at) (set_split before at b h) }
 
 module _ {before after text : List ℕ} {at end : ℕ} (w : Wrote before at text after end) (room : Room before at text) where
   -- What stands up to the end of the text.

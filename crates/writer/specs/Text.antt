@@ -1,13 +1,11 @@
 -- What it is that a text was written into a slice, what the writer asks of the store, and how turns are counted.
 --
 -- What the text of a formula is stands in `rules`, in `Written`, and which clauses the store holds in `clauses`, in `Store`.
-use Rattle.std.specs.Prelude.{ℕ, ◌+◌, ◌*◌, ◌<◌, ◌≤◌, ◌≡◌, List, [], ◌∷◌, ◌++◌, length, take, drop}
+use Rattle.std.specs.Prelude.{ℕ, ◌+◌, ◌*◌, ◌<◌, ◌≤◌, ◌≡◌, List, [], ◌∷◌, ◌++◌, length, take, drop, Option, Some, None}
 use Rattle.meaning.specs.Meaning.{Formula}
 use Rattle.rules.specs.Tools.{bytes}
 use Rattle.rules.specs.Written.{decimal, write_formula}
 use Rattle.clauses.specs.Store.{start_at, RoomFor, clauses_of}
-use Rattle.writer.specs.declared.Fit.{Fit}
-use Rattle.writer.specs.declared.Fit.TheVariants.{Whole, TooLong}
 
 -- The text has so many bytes: at least one, and at most so many.
 pub record Sized (text : List ℕ) (size most : ℕ) : Type 0 where
@@ -70,17 +68,25 @@ pub record WroteFormula (F : Formula) (before after : List ℕ) (end turns : ℕ
   pub is : after ≡ write_formula F ++ drop end before
   pub counted : Counted 0 end 6 turns
 
--- What a sum of lengths says that began at `before` and stops as soon as it is above the room: it is never more than what is
--- needed, it is what is needed unless it is above the room, and it is not far above the room. The loops made at least one turn
--- for two bytes that were added, where `free` bytes may have cost none, and at most one for each byte, or two more if the sum is
--- above the room; the free bytes cost none.
-pub record Measured (before need room free total turns : ℕ) : Type 0 where
-  pub below : total ≤ need
-  pub exact : total ≤ room → total ≡ need
-  pub near : total ≤ room + 22
+-- A sum of lengths that began at `before` came to all that is needed, which is not above the room, and so many turns were made: at
+-- least one for two bytes that were added, where `free` bytes may have cost none, and at most one for each byte; the free bytes
+-- cost none.
+pub record SumFits (before need room free total turns : ℕ) : Type 0 where
+  pub exact : total ≡ need
+  pub fits : total ≤ room
   pub at_least : total ≤ before + 2 * turns + free
-  pub at_most : turns + before + free ≤ total + 2
-  pub spare : total ≤ room → turns + before + free ≤ total
+  pub at_most : turns + before + free ≤ total
+
+-- The sum is above the room, which was found as soon as it was: by then it was above it by 22 bytes at most.
+pub record SumExceeds (before need room free turns : ℕ) : Type 0 where
+  pub longer : room < need
+  pub at_least : room < before + 2 * turns + free
+  pub at_most : turns + before + free ≤ room + 24
+
+-- A sum of lengths, or that it is above the room.
+abbrev pub Summed : ℕ → ℕ → ℕ → ℕ → Option ℕ → ℕ → Type 0
+Summed before need room free (Some total) turns = SumFits before need room free total turns
+Summed before need room free None turns = SumExceeds before need room free turns
 
 -- How many digits the two numbers of the first line have together.
 pub record LineDigits (vars clauses digits : ℕ) : Type 0 where
@@ -102,6 +108,6 @@ pub record IsTooLong (need room turns : ℕ) : Type 0 where
   pub at_most : turns ≤ room + 40
 
 -- The answer to the question whether `need` bytes fit into the room.
-abbrev pub Answers : ℕ → ℕ → Fit → Type 0
-Answers need room (Whole length turns) = FitsWhole need room length turns
-Answers need room (TooLong turns) = IsTooLong need room turns
+abbrev pub Answers : ℕ → ℕ → Option ℕ → ℕ → Type 0
+Answers need room (Some size) turns = FitsWhole need room size turns
+Answers need room None turns = IsTooLong need room turns

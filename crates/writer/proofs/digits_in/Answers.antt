@@ -1,12 +1,9 @@
 use Rattle.std.proofs.Common.{arith}
-use Rattle.writer.proofs.Digits.{counting_start, counting_below, counting_on, counting_end}
+use Rattle.writer.proofs.Digits.{counting_start, counting_on, counting_end}
 use Rattle.writer.proofs.digits_in.Goals as goal
 
 pub loop-rest-init : goal.loop-rest-init
 loop-rest-init c = counting_start _ (omega arith)
-
-pub overflow_add-count : goal.overflow_add-count
-overflow_add-count c = omega (arith, counting_below c.loop-rest.invariant)
 
 pub loop-rest-preserved : goal.loop-rest-preserved
 loop-rest-preserved c = counting_on c.loop-rest.invariant c.loop-rest-test.true

@@ -1,7 +1,7 @@
 -- `writer::write_first_line` meets its contract: the parts of the line, one behind the other. Assumes nothing.
-use Rattle.std.proofs.Common.{arith}
-use Rattle.writer.proofs.Texts.{room-first, wrote_same}
-use Rattle.writer.proofs.Lines.{line_start_lem, first-room, space_room, second_room, feed-room, feed-below, line_wrote}
+use Rattle.std.proofs.Common.{refl}
+use Rattle.writer.proofs.Texts.{room-first}
+use Rattle.writer.proofs.Lines.{line_start_lem, first-room, space_room, second_room, feed-room, line_wrote}
 use Rattle.writer.proofs.write_first_line.Goals as goal
 
 pub write_line_start-first-requires : goal.write_line_start-first-requires
@@ -24,22 +24,6 @@ pub write_byte-end-requires : goal.write_byte-end-requires
 write_byte-end-requires c =
     feed-room _ _ c.requires c.write_line_start-first.ensures c.write_number-space.ensures c.write_byte-second.ensures c.write_number-feed.ensures
 
-pub overflow_mul-result : goal.overflow_mul-result
-overflow_mul-result c =
-    omega (arith, feed-below _ _ c.requires c.write_line_start-first.ensures c.write_number-space.ensures c.write_byte-second.ensures c.write_number-feed.ensures, c.well_formed)
-
-pub overflow_mul-result-2 : goal.overflow_mul-result-2
-overflow_mul-result-2 c =
-    omega (arith, feed-below _ _ c.requires c.write_line_start-first.ensures c.write_number-space.ensures c.write_byte-second.ensures c.write_number-feed.ensures, c.well_formed)
-
-pub overflow_add-result : goal.overflow_add-result
-overflow_add-result c =
-    omega (arith, feed-below _ _ c.requires c.write_line_start-first.ensures c.write_number-space.ensures c.write_byte-second.ensures c.write_number-feed.ensures, c.well_formed)
-
 pub returns : goal.returns
 returns c =
-    line_wrote _ _ c.requires c.write_line_start-first.ensures c.write_number-space.ensures c.write_byte-second.ensures c.write_number-feed.ensures c.write_byte-end.ensures c.count.ensures c.count-2.ensures
-
-pub shape_of-out : goal.shape_of-out
-shape_of-out c =
-    wrote_same (returns c).wrote c.requires
+    line_wrote _ _ c.requires c.write_line_start-first.ensures c.write_number-space.ensures c.write_byte-second.ensures c.write_number-feed.ensures c.write_byte-end.ensures refl

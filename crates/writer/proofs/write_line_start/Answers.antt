@@ -1,28 +1,18 @@
--- `writer::write_line_start` meets its contract: six stores in a row. Assumes nothing.
-use Rattle.std.proofs.Common.{arith, length-set}
+-- `writer::write_line_start` meets its contract. Assumes nothing.
+use Rattle.std.proofs.Common.{arith, ap, List, ℕ, ◌++◌, drop, length-take-le}
+use Rattle.writer.specs.Text.{line_start}
 use Rattle.writer.proofs.Lines.{start-room, start_wrote}
 use Rattle.writer.proofs.write_line_start.Goals as goal
 
-pub bounds-out-0 : goal.bounds-out-0
-bounds-out-0 c = omega (arith, start-room c.requires)
+pub slice_bounds-copy_from_slice-end : goal.slice_bounds-copy_from_slice-end
+slice_bounds-copy_from_slice-end c = start-room c.requires
 
-pub bounds-out-1 : goal.bounds-out-1
-bounds-out-1 c = simp length-set (omega (arith, start-room c.requires))
+pub slice_bounds-copy_from_slice-end-2 : goal.slice_bounds-copy_from_slice-end-2
+slice_bounds-copy_from_slice-end-2 c = omega (arith, length-take-le 6 c.args.out.now (start-room c.requires))
 
-pub bounds-out-2 : goal.bounds-out-2
-bounds-out-2 c = simp length-set (omega (arith, start-room c.requires))
-
-pub bounds-out-3 : goal.bounds-out-3
-bounds-out-3 c = simp length-set (omega (arith, start-room c.requires))
-
-pub bounds-out-4 : goal.bounds-out-4
-bounds-out-4 c = simp length-set (omega (arith, start-room c.requires))
-
-pub bounds-out-5 : goal.bounds-out-5
-bounds-out-5 c = simp length-set (omega (arith, start-room c.requires))
-
-pub shape_of-out : goal.shape_of-out
-shape_of-out c = simp length-set
+pub copy_from_slice-requires : goal.copy_from_slice-requires
+copy_from_slice-requires c = length-take-le 6 c.args.out.now (start-room c.requires)
 
 pub returns : goal.returns
-returns c = start_wrote _ c.requires
+unfolding line_start
+returns c = start_wrote _ _ (ap (λ (l : List ℕ). l ++ drop 6 c.args.out.now) c.copy_from_slice.ensures.after)
