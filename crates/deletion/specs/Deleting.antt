@@ -1,12 +1,9 @@
 -- What deleting clauses by their ids comes to, in terms of document 01's judgement of a deletion (rules' Judging) and of the
 -- store of live clauses (clauses' Store).
-use Rattle.std.specs.Prelude.{ℕ, zero, suc, ◌+◌, ◌-◌, ◌*◌, ◌%◌, ◌^◌, ◌<◌, ◌≤◌, ◌≡◌, true, false, List, [], ◌∷◌, map, eqb, length, take}
+use Rattle.std.specs.Prelude.{ℕ, zero, suc, ◌+◌, ◌-◌, ◌*◌, ◌%◌, ◌^◌, ◌<◌, ◌≤◌, ◌≡◌, true, false, List, [], ◌∷◌, map, eqb, length, Option, Some, None, Result, Ok, Err}
 use Rattle.rules.specs.Judging.{Live, State, refused, goes_on, deletion_not_live, judge_deletion}
 use Rattle.clauses.specs.Codes.{half}
-use Rattle.clauses.specs.Counting.{Reaches}
 use Rattle.clauses.specs.Store.{id_at, start_at, RoomFor, marked, Store, Holds}
-use Rattle.deletion.specs.declared.Deleted.{Deleted}
-use Rattle.deletion.specs.declared.Deleted.TheVariants.{Done, NotLive}
 
 -- The heads belong to a store of n clauses, which has no more literals than a slice of them can have.
 pub record Headed (heads : List ℕ) (n : ℕ) : Type 0 where
@@ -31,48 +28,44 @@ unfolding dead_at
 dead_of heads zero = 0
 dead_of heads (suc n) = dead_of heads n + dead_at heads n
 
--- The k-th clause is live, and what it takes can be added to `dead`.
-pub record Removable (heads : List ℕ) (k dead : ℕ) : Type 0 where
+-- The k-th clause is live, and what it takes can be counted.
+pub record Removable (heads : List ℕ) (k : ℕ) : Type 0 where
   pub room : RoomFor heads (k + 1)
   pub is_live : id_at heads k % 2 ≡ 0
   pub ordered : start_at heads k ≤ start_at heads (k + 1)
-  pub fits : dead + (start_at heads (k + 1) - start_at heads k + 1) < 2 ^ 64
+  pub fits : start_at heads (k + 1) - start_at heads k + 1 < 2 ^ 64
 
--- What deleting one clause asks for: `dead` is no more than what is deleted in the store.
-pub record Deletable (heads : List ℕ) (n id dead : ℕ) : Type 0 where
+-- What deleting one clause asks for.
+pub record Deletable (heads : List ℕ) (n id : ℕ) : Type 0 where
   pub headed : Headed heads n
   pub small : id < 2 ^ 60
-  pub below : dead ≤ dead_of heads n
 
--- One id took its own turn and those of a lookup, which are at most 63. A counter that is full stays so.
-pub record OneTaken (turns turns' : ℕ) : Type 0 where
-  pub at_least : Reaches (turns + 1) turns'
-  pub at_most : turns' ≤ turns + 64
+-- One id took its own turn and those of a lookup, which are at most 63.
+pub record OneTaken (turns : ℕ) : Type 0 where
+  pub at_least : 1 ≤ turns
+  pub at_most : turns ≤ 64
 
--- The clause `id` was live, and is deleted.
-pub record Gone (heads : List ℕ) (n id dead turns : ℕ) (heads' : List ℕ) (dead' turns' : ℕ) : Type 0 where
+-- The clause `id` was live, and is deleted; it took so much.
+pub record Gone (heads : List ℕ) (n id : ℕ) (heads' : List ℕ) (more : ℕ) : Type 0 where
   pub place : ℕ
   pub within : place < n
   pub is_id : id_at heads place ≡ 2 * id
   pub after : heads' ≡ marked heads place
-  pub count : dead' ≡ dead + (start_at heads (place + 1) - start_at heads place + 1)
-  pub taken : OneTaken turns turns'
+  pub count : more ≡ start_at heads (place + 1) - start_at heads place + 1
 
 -- No live clause has the id, and nothing was changed.
-pub record Missing (heads : List ℕ) (n id dead turns : ℕ) (heads' : List ℕ) (id' dead' turns' : ℕ) : Type 0 where
+pub record Missing (heads : List ℕ) (n id : ℕ) (heads' : List ℕ) : Type 0 where
   pub lacks : (k : ℕ) → k < n → id_at heads k ≡ 2 * id → ⊥
   pub after : heads' ≡ heads
-  pub same : id' ≡ id
-  pub count : dead' ≡ dead
-  pub taken : OneTaken turns turns'
 
 -- One or the other, by the answer.
-abbrev pub OneCase : List ℕ → ℕ → ℕ → ℕ → ℕ → List ℕ → Deleted → Type 0
-OneCase heads n id dead turns heads' (Done dead' turns') = Gone heads n id dead turns heads' dead' turns'
-OneCase heads n id dead turns heads' (NotLive id' dead' turns') = Missing heads n id dead turns heads' id' dead' turns'
+abbrev pub OneCase : List ℕ → ℕ → ℕ → List ℕ → Option ℕ → Type 0
+OneCase heads n id heads' (Some more) = Gone heads n id heads' more
+OneCase heads n id heads' None = Missing heads n id heads'
 
-pub record DeletesOne (heads : List ℕ) (n id dead turns : ℕ) (heads' : List ℕ) (r : Deleted) : Type 0 where
-  pub case : OneCase heads n id dead turns heads' r
+pub record DeletesOne (heads : List ℕ) (n id : ℕ) (heads' : List ℕ) (r : Option ℕ) (turns : ℕ) : Type 0 where
+  pub case : OneCase heads n id heads' r
+  pub taken : OneTaken turns
 
 -- What is known when the first `taken` ids were taken: how much more is deleted, and how many turns that took.
 pub record Counted (heads : List ℕ) (n : ℕ) (heads' : List ℕ) (dead turns taken : ℕ) : Type 0 where
@@ -105,9 +98,9 @@ pub record OneMissing (heads : List ℕ) (n : ℕ) (ids heads' : List ℕ) (id d
   pub counted : Counted heads n heads' dead turns taken
 
 -- What deleting all came to, by the answer.
-abbrev pub DeletesCase : List ℕ → ℕ → List ℕ → List ℕ → Deleted → Type 0
-DeletesCase heads n ids heads' (Done dead turns) = AllGone heads n ids heads' dead turns
-DeletesCase heads n ids heads' (NotLive id dead turns) = OneMissing heads n ids heads' id dead turns
+abbrev pub DeletesCase : List ℕ → ℕ → List ℕ → List ℕ → Result (Unit {0}) ℕ → ℕ → ℕ → Type 0
+DeletesCase heads n ids heads' (Ok u) dead turns = AllGone heads n ids heads' dead turns
+DeletesCase heads n ids heads' (Err id) dead turns = OneMissing heads n ids heads' id dead turns
 
-pub record Deletes (heads : List ℕ) (n : ℕ) (ids : List ℕ) (many : ℕ) (heads' : List ℕ) (r : Deleted) : Type 0 where
-  pub case : DeletesCase heads n (take many ids) heads' r
+pub record Deletes (heads : List ℕ) (n : ℕ) (ids heads' : List ℕ) (outcome : Result (Unit {0}) ℕ) (dead turns : ℕ) : Type 0 where
+  pub case : DeletesCase heads n ids heads' outcome dead turns

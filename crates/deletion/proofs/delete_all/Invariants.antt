@@ -1,11 +1,7 @@
--- `deletion::delete_all` meets its contract. The loop's invariant: the first i ids were taken, and what is left says what all
--- say (`Taking`). The measure is how many ids are left. Assumes nothing.
-use Rattle.std.proofs.Common.{◌-◌, take}
+-- `deletion::delete_all` meets its contract. The loop's invariant: the ids so far were taken, and what is left says what all say
+-- (`Taking`). Assumes nothing.
 use Rattle.deletion.proofs.Removing.{Taking}
 use Rattle.deletion.proofs.delete_all.Given as goal
 
-abbrev pub invariant-loop-i : goal.invariant-loop-i
-invariant-loop-i l = Taking l.initial.heads l.n (take l.many l.ids) l.heads l.dead l.turns l.i
-
-abbrev pub decreases-loop-i : goal.decreases-loop-i
-decreases-loop-i l = l.many - l.i
+abbrev pub invariant-loop-code : goal.invariant-loop-code
+invariant-loop-code l = Taking l.initial.heads l.n l.ids l.heads l.dead l.turns l.code-index
