@@ -48,8 +48,8 @@ pub struct Stopped {
     pub many: usize,
 }
 
-// How far short numbers were taken: the place behind the last one in the text, and in the slice. Tried: the place in the slice
-// behind a `&mut`; it took a fiftieth more instructions where steps are short, since it cannot stay in a register.
+// How far short numbers were taken: the place behind the last one in the text, and in the slice.
+// Two numbers come back in registers; tried: the second behind a `&mut`, with a fiftieth more instructions where steps are short.
 #[derive(Clone, Copy)]
 struct Passed {
     next: usize,
@@ -65,19 +65,19 @@ fn along(s: &[u8], from: usize, limit: u64, slots: &mut [u32], first: usize) -> 
     ensures { Along s.now from first limit slots.old slots.new result.next result.end }
 {
     let mut next = from;
-    let mut end = first;
-    // No `for`, which would have to tell the end of the slice from another place where it stops: both are the place that goes back.
-    while end < slots.len() {
+    for end in first..slots.len() {
         let r = text::short_at(s, next);
         let code = r / 16;
         if r == 0 || limit <= code {
-            break;
+            return Passed { next, end };
         }
         slots[end] = code as u32;
-        end += 1;
         next += (r % 16) as usize;
     }
-    Passed { next, end }
+    Passed {
+        next,
+        end: slots.len().max(first),
+    }
 }
 
 // A reader that stands at `from` takes the literals or hints that follow there: the place behind them.
