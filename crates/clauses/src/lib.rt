@@ -4,7 +4,7 @@
 // The slices are memory that is lent once, longer than what is in use, so how many clauses there are stands beside them.
 #![tactic(auto)]
 
-ghost use Rattle.std.specs.Prelude.{◌≡◌, ◌+◌, ◌-◌, ◌*◌, ◌/◌, ◌%◌, ◌^◌, ◌<◌, ◌≤◌, min, length, IfSome};
+ghost use Rattle.std.specs.Prelude.{◌≡◌, ◌+◌, ◌-◌, ◌*◌, ◌/◌, ◌%◌, ◌^◌, ◌<◌, ◌≤◌, length, IfSome};
 ghost use Rattle.clauses.specs.Codes.{opposite_code};
 ghost use Rattle.clauses.specs.Counting.{Counts};
 ghost use Rattle.std.proofs.Math.Seq.{slice};
@@ -57,26 +57,12 @@ pub fn count(x: usize) -> u64
     x as u64
 }
 
-// A number of 32 bits, as one of 64.
-pub fn wide(x: u32) -> u64
-    ensures { result ≡ x }
-{
-    x as u64
-}
-
 // Turns and more turns, up to the greatest count.
 #[inline]
 pub fn plus(turns: u64, more: u64) -> u64
     ensures { Counts turns more result }
 {
     turns.saturating_add(more)
-}
-
-// The smaller of two numbers.
-pub fn smaller(x: u64, y: u64) -> u64
-    ensures { result ≡ min x y }
-{
-    if x < y { x } else { y }
 }
 
 // The opposite of a literal.
