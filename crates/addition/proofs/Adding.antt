@@ -15,9 +15,7 @@ use Rattle.clauses.proofs.Literals.{literal-opposite}
 use Rattle.assignment.specs.Marks.{Marked, Laid, Undoable, Undone}
 use Rattle.assignment.proofs.Marking.{laid_none, laid_join, laid_undoable}
 use Rattle.groups.specs.Matching.{GroupAt, NextGroup, AllMatch, OneDiffers, Matches, MatchesCase}
-use Rattle.groups.specs.declared.Matched.{Matched}
-use Rattle.groups.specs.declared.Matched.TheVariants.{All, Differ}
-use Rattle.groups.proofs.Hints.{groups-first, leading-first, no_group_start}
+use Rattle.groups.proofs.Hints.{groups-first, leading-first}
 use Rattle.groups.proofs.Walking.{walked_few}
 use Rattle.judge.specs.Hints.{SaysCase as HintsSay, PassedCase as HintsPassed, Ends, Takes}
 use Rattle.judge.specs.Falsifying.{Outcome, PassedCase as FellCase, ClauseCase, FalsifiesClause}
@@ -62,7 +60,7 @@ first-none (y ∷ ys) e = cc
 
 -- Behind the last hint of rule 3 a group begins, or nothing is left.
 pub group_next : (hints : List ℕ) → GroupAt hints 0 → NextGroup hints 0 0
-group_next hints g = record { passed = no_group_start hints 0; group = g }
+group_next hints g = record { passed = record { later = omega arith; evens = λ k a b. absurd (omega arith) }; group = g }
 
 module _ (heads lits : List ℕ) (n : ℕ) (clause marks hints : List ℕ) (fit : Fit heads lits n marks) (known : Marked clause marks) (before : ℕ) where
   abbrev live : Live
@@ -88,7 +86,7 @@ module _ (heads lits : List ℕ) (n : ℕ) (clause marks hints : List ℕ) (fit 
     pub rest_known : first < 2 ^ 31
     rest_known = omega (arith, rw starts at (known.below 0), fit.ready.paired.small)
 
-    module _ (q : ℕ) (is_q : q ≡ opposite_code first) (r : Matched) (matches : Matches heads lits n hints 0 q r) (turns : ℕ) where
+    module _ (q : ℕ) (is_q : q ≡ opposite_code first) (r : Result (Unit {0}) ℕ) (turns : ℕ) (matches : Matches heads lits n hints 0 q r turns) where
       abbrev p : Literal
       p = literal_of first
 
@@ -98,9 +96,9 @@ module _ (heads lits : List ℕ) (n : ℕ) (clause marks hints : List ℕ) (fit 
       k_is : map literal_of clause ≡ p ∷ map literal_of others
       k_is = ap (map literal_of) starts
 
-      module _ (e : r ≡ All turns) where
+      module _ (e : r ≡ Ok tt) where
         all_match : AllMatch heads lits n hints 0 q turns
-        all_match = subst (MatchesCase heads lits n hints 0 q) e matches.case
+        all_match = subst (MatchesCase heads lits n hints 0 q turns) e matches.case
 
         rest_turns : turns ≤ n + m + length hints
         rest_turns = walked_few heads lits n hints 0 n (length hints) turns rest_stored (omega arith) all_match.walked
@@ -126,9 +124,9 @@ module _ (heads lits : List ℕ) (n : ℕ) (clause marks hints : List ℕ) (fit 
           bounded = omega (arith, j.bounded, rest_turns, together.at_most);
         }
 
-      module _ (id : ℕ) (e : r ≡ Differ id turns) where
+      module _ (id : ℕ) (e : r ≡ Err id) where
         one_differs : OneDiffers heads lits n hints 0 q id turns
-        one_differs = subst (MatchesCase heads lits n hints 0 q) e matches.case
+        one_differs = subst (MatchesCase heads lits n hints 0 q turns) e matches.case
 
         rest_few : turns ≤ n + m + length hints
         rest_few = walked_few heads lits n hints 0 one_differs.passed one_differs.at turns rest_stored one_differs.some_of one_differs.walked

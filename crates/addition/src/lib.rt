@@ -14,7 +14,6 @@ ghost use Rattle.addition.specs.Addition.{live_in, ids_of, TriesHints, PlaceOf, 
 
 use assignment::Assignment;
 use clauses::{Timed, View};
-use groups::Matched;
 use judge::falsifying::Obstacle;
 use judge::hints::{Effect, Fault};
 
@@ -142,7 +141,7 @@ fn judge_group(view: View, a: &mut Assignment, group: &[u32], q: u32) -> Judged
         Some(place) => judge_there(view, a, &group[1..], q, d, place, turns),
         None => Timed {
             value: Err(Failure::Refused(Ground::HintNotLive(d))),
-            turns: turns,
+            turns,
         },
     }
 }
@@ -160,13 +159,13 @@ fn judge_groups(view: View, a: &mut Assignment, hints: &[u32], q: u32, before: u
         if judged.value.is_err() {
             return Timed {
                 value: judged.value,
-                turns: turns,
+                turns,
             };
         }
     }
     Timed {
         value: Ok(()),
-        turns: turns,
+        turns,
     }
 }
 
@@ -185,11 +184,13 @@ fn after_hints(view: View, clause: &[u32], a: &mut Assignment, hints: &[u32], be
         };
     };
     let q = clauses::opposite(*p);
-    match groups::match_groups(view.heads, view.lits, view.n, hints, 0, q) {
-        Matched::All { turns } => { judge_groups(view, a, hints, q, clauses::plus(before, turns)) }
-        Matched::Differ { id, turns } => Timed {
+    let matched = groups::match_groups(view, hints, 0, q);
+    let turns = clauses::plus(before, matched.turns);
+    match matched.value {
+        Ok(()) => judge_groups(view, a, hints, q, turns),
+        Err(id) => Timed {
             value: Err(Failure::Refused(Ground::GroupsDontMatch(id))),
-            turns: clauses::plus(before, turns),
+            turns,
         },
     }
 }
@@ -207,12 +208,12 @@ fn judge_hints(view: View, clause: &[u32], a: &mut Assignment, hints: &[u32], be
     match taken.value {
         Ok(Effect::Conflict) => Timed {
             value: Ok(()),
-            turns: turns,
+            turns,
         },
         Ok(Effect::Forced) => after_hints(view, clause, a, behind, turns),
         Err(fault) => Timed {
             value: Err(Failure::from(fault)),
-            turns: turns,
+            turns,
         },
     }
 }

@@ -4,18 +4,18 @@ use Rattle.std.proofs.Common.{sym}
 use Rattle.addition.proofs.Adding.{first_some, first-none, group_next, rest_stored, rest_empty, rest_all, rest_differ}
 use Rattle.addition.proofs.after_hints.Goals as goal
 
-pub match_groups-requires : goal.match_groups-requires
-match_groups-requires c = record { stored = rest_stored _ _ _ _ _ c.args.hints.now c.requires.fit c.requires.known c.args.before; next_group = group_next _ c.requires.group_at }
+pub match_groups-matched-requires : goal.match_groups-matched-requires
+match_groups-matched-requires c = record { stored = rest_stored _ _ _ _ _ c.args.hints.now c.requires.fit c.requires.known c.args.before; next_group = group_next _ c.requires.group_at }
 
 pub returns-in_default : goal.returns-in_default
 returns-in_default c = rest_empty _ _ _ _ _ _ c.requires.fit c.requires.known _ _ _ c.args.a.now.within (first-none _ (sym c.in_default.ensures.value))
 
-pub returns-in-All : goal.returns-in-All
-returns-in-All c =
-    rest_all _ _ _ _ _ _ c.requires.fit c.requires.known _ _ _ (first_some _ _ (sym c.in-Some.ensures.value)) _ c.opposite-q.ensures _ c.match_groups.ensures _ c.in-All.is
-    _ c.plus.ensures _ _ _ _ _ _ _ c.judge_groups.ensures
+pub returns-in-Ok : goal.returns-in-Ok
+returns-in-Ok c =
+    rest_all _ _ _ _ _ _ c.requires.fit c.requires.known _ _ _ (first_some _ _ (sym c.in-Some.ensures.value)) _ c.opposite-q.ensures _ _ c.match_groups-matched.ensures c.in-Ok.is
+    _ c.plus-turns.ensures _ _ _ _ _ _ _ c.judge_groups.ensures
 
-pub returns-in-Differ : goal.returns-in-Differ
-returns-in-Differ c =
-    rest_differ _ _ _ _ _ _ c.requires.fit c.requires.known _ _ _ (first_some _ _ (sym c.in-Some.ensures.value)) _ c.opposite-q.ensures _ c.match_groups.ensures _ _ c.in-Differ.is
-    _ c.plus-in-Differ.ensures _ _ c.args.a.now.within
+pub returns-in-Err : goal.returns-in-Err
+returns-in-Err c =
+    rest_differ _ _ _ _ _ _ c.requires.fit c.requires.known _ _ _ (first_some _ _ (sym c.in-Some.ensures.value)) _ c.opposite-q.ensures _ _ c.match_groups-matched.ensures _ c.in-Err.is
+    _ c.plus-turns.ensures _ _ c.args.a.now.within
