@@ -58,7 +58,7 @@ struct Passed {
 
 // Takes short numbers one after the other from `from` on, as long as their codes are below `limit` and there is room for them
 // in the slice from `first` on. Nearly all tokens of a proof in use are taken here; whatever is not as expected is left to
-// `feed`, which decides.
+// `feed`, which decides. (The whole slice and a place in it, and not what lies behind: a place is what the reader keeps.)
 fn along(s: &[u8], from: usize, limit: u64, slots: &mut [u32], first: usize) -> Passed
     requires from_in_bounds { from ≤ length s.now }
     requires limit_bound { limit ≤ 2 ^ 32 }
@@ -109,6 +109,7 @@ fn go_on(
 }
 
 // The step at `at`. Its literals go behind the first `used` of `lits`, its hints or ids to the start of `hints`.
+// The slices are lent out of a larger store of the caller's: a struct of them would have to be built anew for each step.
 pub fn read_step(
     s: &[u8],
     at: usize,
