@@ -1,10 +1,10 @@
 -- Eight bytes as one number: what its bytes are, what they say as digits, and what is left of them once they are moved up.
 -- Assumes nothing.
-use Rattle.std.proofs.Common.{◌≡◌, ℕ, zero, suc, ◌+◌, ◌*◌, ◌/◌, ◌%◌, ◌^◌, ◌<◌, ◌≤◌, false, eqb, ltb, List, get_or}
-use Rattle.std.proofs.Common.{sym, refl, ap, ◌∙◌, mod-eq_of_lt, mul_assoc, suc-add, pow-suc, zero-add, mul-one, arith, pow-add, ltb-false, ltb-true, eqb-true}
+use Rattle.std.proofs.Common.{◌≡◌, ℕ, zero, suc, ◌+◌, ◌*◌, ◌/◌, ◌%◌, ◌^◌, ◌<◌, ◌≤◌, false, eqb, List, get_or}
+use Rattle.std.proofs.Common.{sym, refl, ap, ◌∙◌, mod-eq_of_lt, mul_assoc, suc-add, pow-suc, zero-add, mul-one, arith, pow-add, eqb-true}
 use Rattle.std.proofs.Math.Arith.{mod-mul}
-use lib.Bits.{bit_and, bit_or, and_block, and_high, or_shifted_r}
-use Rattle.meaning.proofs.Truth.{bool_cases, clash}
+use lib.Bits.{bit_and, and_block, and_high}
+use Rattle.meaning.proofs.Truth.{clash}
 use Rattle.text.specs.Scan.{bytes_at, Bytes, EachUpTo, EachAtMost, Tells, said}
 
 -- A number as its lowest byte and the rest
@@ -57,25 +57,14 @@ bytes_on s at (suc k) =
     let rest : bytes_at s (at + 1) (suc k) ≡ bytes_at s (at + 1) k + get_or s (at + suc k) 0 * 256 ^ k = (rw p at (bytes_on s (at + 1) k)) in
     omega (arith, up, rest)
 
-bytes_small : (s : List ℕ) (at k : ℕ) → ((i : ℕ) → at ≤ i → i < at + k → get_or s i 0 < 256) → bytes_at s at k < 256 ^ k
+-- Eight bytes, the first of them lowest.
+pub eight_bytes : (s : List ℕ) (at r : ℕ) → ((i : ℕ) → get_or s i 0 < 256) → r ≡ get_or s at 0 + get_or s (at + 1) 0 * 256 ^ 1 + get_or s (at + 2) 0 * 256 ^ 2 + get_or s (at + 3) 0 * 256 ^ 3 + get_or s (at + 4) 0 * 256 ^ 4 +
+    get_or s (at + 5) 0 * 256 ^ 5 + get_or s (at + 6) 0 * 256 ^ 6 + get_or s (at + 7) 0 * 256 ^ 7 → Bytes s at 8 r
 unfolding bytes_at
-bytes_small s at zero h = omega arith
-bytes_small s at (suc k) h = let r = bytes_small s (at + 1) k (λ i l g. h i (omega arith) (omega arith)) in omega (arith, r, h at (omega arith) (omega arith), pow-suc 256 k)
-
--- Bytes that were read, one above the other.
-
-pub one_byte : (s : List ℕ) (at b : ℕ) → (b ≡ get_or s at 0) × (b < 256) → Bytes s at 1 b
-unfolding bytes_at
-one_byte s at b p = record { is = omega (arith, p.0); bytes = λ i l h. let q : i ≡ at = omega arith in rw q (omega (arith, p.0, p.1)) }
-
-pub byte_on : (s : List ℕ) (at k low b : ℕ) → Bytes s at k low → (b ≡ get_or s (at + k) 0) × (b < 256) → b * 2 ^ (8 * k) < 2 ^ 64 → Bytes s at (suc k) (bit_or low (b * 2 ^ (8 * k) % 2 ^ 64))
-byte_on s at k low b w p room =
-    let small : low < 2 ^ (8 * k) = (rw (bytes_of_bits k, w.is) (bytes_small s at k w.bytes)) in
-    let above : bit_or low (b * 2 ^ (8 * k) % 2 ^ 64) ≡ b * 2 ^ (8 * k) + low = ap (λ (x : ℕ). bit_or low x) (mod-eq_of_lt room) ∙ or_shifted_r b (8 * k) low small in
-    let is_b : b * 2 ^ (8 * k) ≡ get_or s (at + k) 0 * 256 ^ k = ap (λ (x : ℕ). x * 2 ^ (8 * k)) p.0 ∙ ap (λ (x : ℕ). get_or s (at + k) 0 * x) (bytes_of_bits k) in
+eight_bytes s at r small is =
     record {
-      is = omega (arith, above, is_b, w.is, bytes_on s at k);
-      bytes = λ i l h. bool_cases (ltb i (at + k)) (λ y. w.bytes i l (ltb-true i (at + k) y)) (λ n. let q : i ≡ at + k = omega (arith, ltb-false i (at + k) n) in rw q (omega (arith, p.0, p.1)));
+      is = omega (arith, is, bytes_on s at 7, bytes_on s at 6, bytes_on s at 5, bytes_on s at 4, bytes_on s at 3, bytes_on s at 2, bytes_on s at 1);
+      bytes = λ i l h. small i;
     }
 
 -- Moved up by one byte more.

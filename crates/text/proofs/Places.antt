@@ -1,10 +1,12 @@
 -- What stands at a place of a text: blanks, words and digits at `drop i s`, by the byte that is there. Assumes nothing.
-use Rattle.std.proofs.Common.{◌≡◌, ℕ, suc, ◌+◌, ◌<◌, ◌≤◌, true, false, eqb, ltb, List, [], ◌∷◌, length, get_or, drop}
+use Rattle.std.proofs.Common.{◌≡◌, ℕ, zero, suc, ◌+◌, ◌-◌, ◌<◌, ◌≤◌, Bool, true, false, not, ltb, List, [], ◌∷◌, length, get_or, drop}
 use Rattle.std.proofs.Common.{sym, refl, ap, ◌∙◌, add-one, arith, length-drop, drop_of_length-le, get_or-drop, drop-cons, ltb-false, ltb-true, ne_eqb, le-leb}
+use Rattle.std.proofs.Common.{Option as Maybe, Some, None, MatchOption, IsTrue, Bor}
+use Rattle.std.specs.Slice.{IsItemAt}
 use borrow.Author.Tests.{lt-leb}
 use Rattle.meaning.proofs.Truth.{bool_cases, both_and, clash}
 use Rattle.rules.specs.Text.{is_blank, is_digit, word}
-use Rattle.text.specs.Scan.{blanks, ends_word}
+use Rattle.text.specs.Scan.{blanks, ends_word, Behind}
 
 -- Bytes
 
@@ -12,17 +14,18 @@ pub blank_space : (b : ℕ) → b ≡ 32 → true ≡ is_blank b
 unfolding is_blank
 blank_space b e = rw e
 
-pub blank_tab : (b : ℕ) → b ≡ 9 → true ≡ is_blank b
-unfolding is_blank
-blank_tab b e = rw e
+-- One of the four, or none of them.
 
-pub blank_return : (b : ℕ) → b ≡ 13 → true ≡ is_blank b
+pub blank_one : (b : ℕ) → ((b ≡ 32 → ⊥) → (b ≡ 9 → ⊥) → (b ≡ 13 → ⊥) → (b ≡ 10 → ⊥) → ⊥) → true ≡ is_blank b
 unfolding is_blank
-blank_return b e = rw e
+blank_one b one = bool_cases (is_blank b) sym (λ n. absurd (one (no 32 n refl) (no 9 n refl) (no 13 n refl) (no 10 n refl)))
+  where
+    no : (x : ℕ) → is_blank b ≡ false → true ≡ is_blank x → b ≡ x → ⊥
+    no x n t e = clash (sym t) (ap is_blank (sym e) ∙ n)
 
-pub blank_feed : (b : ℕ) → (b ≡ 32 → ⊥) → (b ≡ 9 → ⊥) → (b ≡ 13 → ⊥) → eqb b 10 ≡ is_blank b
+pub blank_none : (b : ℕ) → (b ≡ 32 → ⊥) → (b ≡ 9 → ⊥) → (b ≡ 13 → ⊥) → (b ≡ 10 → ⊥) → false ≡ is_blank b
 unfolding is_blank
-blank_feed b p q r = rw (ne_eqb b 32 p, ne_eqb b 9 q, ne_eqb b 13 r)
+blank_none b p q r t = rw (ne_eqb b 32 p, ne_eqb b 9 q, ne_eqb b 13 r, ne_eqb b 10 t)
 
 pub digit_by : (b : ℕ) → 48 ≤ b → b ≤ 57 → is_digit b ≡ true
 unfolding is_digit
@@ -35,6 +38,17 @@ no_digit_below b h = rw (lt-leb 48 b h)
 pub no_digit_above : (b : ℕ) → 57 < b → is_digit b ≡ false
 unfolding is_digit
 no_digit_above b h = let lo : 48 ≤ b = omega arith in rw (le-leb 48 b lo, lt-leb b 57 h)
+
+abbrev pub word_length : List ℕ → ℕ
+word_length s = length (word s)
+
+not_true : (b : Bool) → true ≡ not b → b ≡ false
+not_true true e = absurd (clash refl e)
+not_true false e = refl
+
+not_false : (b : Bool) → false ≡ not b → b ≡ true
+not_false true e = refl
+not_false false e = absurd (clash e refl)
 
 module _ (s : List ℕ) (i : ℕ) where
   -- Past the end
@@ -74,6 +88,11 @@ module _ (s : List ℕ) (i : ℕ) where
     unfolding ends_word
     ends_at = rw (drop-cons s i 0 h)
 
+  -- As the code has it, by what may stand there.
+  pub ends_by : {tells : Bor ℕ → Type 0} (o : Maybe (Bor ℕ)) (r : Bool) → IsItemAt s i o → MatchOption o (IsTrue r) tells → ((x : Bor ℕ) → tells x → r ≡ is_blank x.now) → r ≡ ends_word (drop i s)
+  ends_by None r at h by = h ∙ sym (ends_end at.3)
+  ends_by (Some x) r at h by = by x h ∙ ap is_blank (at.3.1 0) ∙ sym (ends_at at.3.0)
+
   -- A word that ends at once is empty.
   pub ends_empty : ends_word (drop i s) ≡ true → word (drop i s) ≡ []
   unfolding ends_word word
@@ -90,21 +109,31 @@ module _ (s : List ℕ) (i : ℕ) where
       (λ y. let h = ltb-true i (length s) y in (h, sym (ends_at h) ∙ e))
       (λ n. absurd (clash (ends_end (ltb-false i (length s) n)) e))
 
--- A scan that started at `from`: what it counts there is what it has passed and what it counts from i on.
-pub record Passed (count : List ℕ → ℕ) (s : List ℕ) (from i : ℕ) : Type 0 where
-  pub same : from + count (drop from s) ≡ i + count (drop i s)
+-- What counts each byte that a scan passes, and none where it stops, counts what was passed.
+counted : (count : List ℕ → ℕ) (s : List ℕ) (k from : ℕ) → ((i : ℕ) → from ≤ i → i < from + k → count (drop i s) ≡ suc (count (drop (i + 1) s))) → count (drop (from + k) s) ≡ 0 → count (drop from s) ≡ k
+counted count s zero from on stop = let p : from + 0 ≡ from = omega arith in rw p at stop
+counted count s (suc k) from on stop =
+    let p : from + suc k ≡ from + 1 + k = omega arith in
+    on from (omega arith) (omega arith) ∙ ap suc (counted count s k (from + 1) (λ i l h. on i (omega arith) (omega arith)) (rw p at stop))
 
-pub passed_start : (count : List ℕ → ℕ) (s : List ℕ) (from : ℕ) → Passed count s from from
-passed_start count s from = record { same = refl }
+module _ {tests : ℕ → Bool → Type 0} (s : List ℕ) (from to : ℕ) (b : Behind tests s from to) where
+  passed_byte : (i : ℕ) → from ≤ i → i < to → (i < length s) × tests (get_or s i 0) true
+  passed_byte i l h = (omega (arith, b.within), b.passed i l h)
 
-pub passed_on : (count : List ℕ → ℕ) (s : List ℕ) (from i : ℕ) → Passed count s from i → count (drop i s) ≡ suc (count (drop (i + 1) s)) → Passed count s from (i + 1)
-passed_on count s from i p e = record { same = p.same ∙ omega (arith, e) }
+  behind_counted : (count : List ℕ → ℕ) → ((i : ℕ) → i < length s → tests (get_or s i 0) true → count (drop i s) ≡ suc (count (drop (i + 1) s))) →
+      (to < length s → tests (get_or s to 0) false → count (drop to s) ≡ 0) → (length s ≤ to → count (drop to s) ≡ 0) → to ≡ from + count (drop from s)
+  behind_counted count on stop end =
+      let same : from + (to - from) ≡ to = omega (arith, b.onward) in
+      let none : count (drop to s) ≡ 0 = bool_cases (ltb to (length s)) (λ y. let h = ltb-true to (length s) y in stop h (b.stops h)) (λ n. end (ltb-false to (length s) n)) in
+      let all = counted count s (to - from) from (λ i l h. let p = passed_byte i l (omega arith) in on i p.0 p.1) (rw same none) in
+      omega (arith, b.onward, all)
 
-pub passed_done : (count : List ℕ → ℕ) (s : List ℕ) (from i : ℕ) → Passed count s from i → count (drop i s) ≡ 0 → i ≡ from + count (drop from s)
-passed_done count s from i p e = omega (arith, p.same, e)
+  pub behind_blanks : ((x : ℕ) (r : Bool) → tests x r → r ≡ is_blank x) → to ≡ from + blanks (drop from s)
+  behind_blanks is = behind_counted blanks (λ i h t. blanks_on s i h (sym (is _ _ t))) (λ h t. blanks-stop s to h (sym (is _ _ t))) (λ h. blanks_end s to h)
 
-abbrev pub word_length : List ℕ → ℕ
-word_length s = length (word s)
+  pub behind_word : ((x : ℕ) (r : Bool) → tests x r → r ≡ not (is_blank x)) → to ≡ from + length (word (drop from s))
+  behind_word is =
+      behind_counted word_length (λ i h t. ap length (word_on s i h (not_true _ (is _ _ t)))) (λ h t. ap length (word-stop s to h (not_false _ (is _ _ t)))) (λ h. ap length (word_end s to h))
 
 -- Behind the blanks that a text begins with there is none.
 

@@ -1,16 +1,18 @@
 -- Short numbers at a place of a text: a few digits, a space behind them, a sign or none before them, and one space before that.
 -- Assumes nothing.
 use Rattle.std.proofs.Common.{◌≡◌, ℕ, zero, suc, ◌+◌, ◌-◌, ◌*◌, ◌/◌, ◌%◌, ◌^◌, ◌<◌, ◌≤◌, false, ltb, List, length, get_or, drop}
-use Rattle.std.proofs.Common.{sym, refl, ap, ◌∙◌, subst, inl, inr, arith, ltb-false, ltb-true}
+use Rattle.std.proofs.Common.{eqb, eqb-true, Some, sym, refl, ap, ◌∙◌, subst, inl, inr, arith, ltb-false, ltb-true}
+use Rattle.std.specs.Int.{from_bool}
 use Rattle.meaning.proofs.Truth.{bool_cases}
 use Rattle.rules.specs.Text.{is_blank}
 use Rattle.rules.proofs.Words.{digit_not_blank}
-use Rattle.text.specs.Scan.{most, blanks, Numbered, Digits, Scans, Positive, Plain, AboveNought, Sign, bytes_at, Bytes, MovedUp, EachUpTo, EachAtMost, said, Short}
+use Rattle.text.specs.Scan.{most, blanks, Numbered, Digits, Scans, Positive, Plain, Sign, bytes_at, Bytes, MovedUp, EachUpTo, EachAtMost, said, Short}
+use Rattle.text.specs.declared.Number.{Number}
 use Rattle.text.specs.declared.Token.TheVariants.{Plus, Minus}
 use Rattle.text.proofs.Places.{blank_space, digit_by, blanks_on, blanks-stop, ends_at}
 use Rattle.text.proofs.Bytes.{repeated, first_byte, bytes_of_bits, each_moved, said_moved, said_least, said-most}
 use Rattle.text.proofs.Numbers.{numbered_end, digits-start, digits_on, positive_on}
-use Rattle.text.proofs.Wordings.{sign_minus, plain-plus, settle_found, scans_word}
+use Rattle.text.proofs.Wordings.{sign_minus, plain-plus, scans_place}
 
 -- Digits
 
@@ -61,7 +63,7 @@ said_nought n p x e z = ap (λ (k : ℕ). said k 0 x) e ∙ ap (λ (v : ℕ). sa
 pub record UnsignedNumber (s : List ℕ) (at size bytes : ℕ) : Type 0 where
   pub positive : 1 ≤ size
   pub plain : Plain (get_or s (at + 1) 0)
-  pub number : Positive (at + 1) (drop (at + 1) s) size (at + bytes)
+  pub number : Positive (at + 1) (drop (at + 1) s) (Some (record { value = size; next = at + bytes }))
 
 -- A digit other than 0 is first, and a space is behind the last.
 unsigned_said : (s : List ℕ) (at n k e : ℕ) → Above s (at + 1) k e → 1 ≤ n → n ≤ k → EachUpTo 9 n e → said n 0 e ≤ most → at + 1 + n < length s → 49 ≤ get_or s (at + 1) 0 → get_or s (at + 1) 0 ≤ 57 → get_or
@@ -80,7 +82,8 @@ unsigned_said s at (suc n) (suc k) e a o l g m h lo hi space =
     let d : Digits s (e % 256) (at + 1 + 1) (said n (e % 256) (e / 256)) (at + (suc n + 1)) =
     (rw last at (said-digits s (e % 256) (at + 1 + 1) n k (e % 256) (at + 1 + 1) (e / 256) (digits-start s (e % 256) (at + 1 + 1) (omega (arith, g.0))) (above_rest s (at + 1) k e a g.0) (omega arith) g.1 f (omega arith))) in
     let ends = ends_at s (at + (suc n + 1)) (omega arith) ∙ sym (blank_space (get_or s (at + (suc n + 1)) 0) there) in
-    let behind : Numbered (e % 256) (at + 1 + 1) (drop (at + 1 + 1) s) (said n (e % 256) (e / 256)) (at + (suc n + 1)) = d.back _ _ (numbered_end s (at + (suc n + 1)) (said n (e % 256) (e / 256)) d.small ends) in
+    let found : Number = record { value = said n (e % 256) (e / 256); next = at + (suc n + 1) } in
+    let behind : Numbered (e % 256) (at + 1 + 1) (drop (at + 1 + 1) s) (Some found) = d.back _ (numbered_end s found d.small ends) in
     rw z record {
       positive = omega (arith, b, said_least n (e % 256) (e / 256));
       plain = record {
@@ -89,8 +92,15 @@ unsigned_said s at (suc n) (suc k) e a o l g m h lo hi space =
         no_letter = λ q. omega arith;
         no_sign = λ q. omega arith;
       };
-      number = positive_on s (at + 1) (said n (e % 256) (e / 256)) (at + (suc n + 1)) (omega arith) lo hi (subst (λ (x : ℕ). Numbered x (at + 1 + 1) (drop (at + 1 + 1) s) (said n (e % 256) (e / 256)) (at + (suc n + 1))) w behind);
+      number = positive_on s (at + 1) (Some found) (omega arith) lo hi (subst (λ (x : ℕ). Numbered x (at + 1 + 1) (drop (at + 1 + 1) s) (Some found)) w behind);
     }
+
+-- A sign, as the code counts it.
+pub sign_by : (b r : ℕ) → r ≡ from_bool (eqb b 45) → Sign b r
+sign_by b r e =
+    bool_cases (eqb b 45)
+    (λ y. let one : r ≡ 1 = (rw y at e) in record { few = omega arith; is = λ l. eqb-true b 45 y })
+    (λ n. let none : r ≡ 0 = (rw n at e) in record { few = omega arith; is = λ l. absurd (omega arith) })
 
 -- The number and what is before it
 
@@ -104,17 +114,17 @@ module _ (s : List ℕ) (at : ℕ) where
 
     scans_plus : (size bytes : ℕ) → UnsignedNumber s at size bytes → Scans at (drop at s) (Plus size) (at + bytes)
     scans_plus size bytes u =
-        scans_word s at (at + 1) (Plus size) (at + bytes) (one_blank u.plain.no_blank)
-        (settle_found s (at + 1) (Plus size) (at + bytes) (plain-plus s (at + 1) h size (at + bytes) u.plain u.number (λ z. omega (arith, u.positive))) refl)
+        let g = plain-plus s (at + 1) h (record { value = size; next = at + bytes }) u.plain u.number in
+        scans_place s at (at + 1) (Plus size) (at + bytes) (one_blank u.plain.no_blank) g.is_token g.is_next
 
     scans_minus : (size bytes : ℕ) → get_or s (at + 1) 0 ≡ 45 → UnsignedNumber s (at + 1) size bytes → Scans at (drop at s) (Minus size) (at + 1 + bytes)
     unfolding is_blank
     scans_minus size bytes e u =
-        scans_word s at (at + 1) (Minus size) (at + 1 + bytes) (one_blank (rw e))
-        (settle_found s (at + 1) (Minus size) (at + 1 + bytes) (sign_minus s (at + 1) h size (at + 1 + bytes) e u.number (λ z. omega (arith, u.positive))) refl)
+        let g = sign_minus s (at + 1) h (record { value = size; next = at + 1 + bytes }) e u.number in
+        scans_place s at (at + 1) (Minus size) (at + 1 + bytes) (one_blank (rw e)) g.is_token g.is_next
 
-    module _ (w n sign first d : ℕ) (long : at + 16 ≤ length s) (e : Bytes s (at + 1) 8 w) (some : 1 ≤ n) (few : n ≤ 7) (behind : get_or s (at + 1 + n) 0 ≡ 32) (g : Sign (get_or s (at + 1) 0) sign)
-        (f : AboveNought (get_or s (at + 1 + sign) 0) first) (lo : 1 ≤ first) (hi : first ≤ 9) (m : MovedUp w sign n d) (each : EachAtMost 9 8 d) where
+    module _ (w n sign d : ℕ) (long : at + 16 ≤ length s) (e : Bytes s (at + 1) 8 w) (some : 1 ≤ n) (few : n ≤ 7) (behind : get_or s (at + 1 + n) 0 ≡ 32) (g : Sign (get_or s (at + 1) 0) sign)
+        (lo : 49 ≤ get_or s (at + 1 + sign) 0) (hi : get_or s (at + 1 + sign) 0 ≤ 57) (m : MovedUp w sign n d) (each : EachAtMost 9 8 d) where
       is_moved : d ≡ m.difference * 256 ^ (8 - n) % 256 ^ (8 - n + n)
       is_moved =
           let bits : 64 - 8 * n ≡ 8 * (8 - n) = omega arith in
@@ -131,10 +141,10 @@ module _ (s : List ℕ) (at : ℕ) where
       -- A number behind the space.
       plus-some : sign ≡ 0 → Short at (drop at s) (said 8 0 d * 32 + 16 * sign + (n + 1))
       plus-some none =
-          let b : get_or s (at + 1) 0 ≡ first + 48 = (let p : at + 1 + sign ≡ at + 1 = omega arith in rw p at (f.is (omega arith))) in
+          let p : at + 1 + sign ≡ at + 1 = omega arith in
           let above : Above s (at + 1) 8 m.difference = record { is = (rw none at m.is) ∙ e.is; bytes = λ j l r. e.bytes j l r } in
           let u : UnsignedNumber s at (said 8 0 d) (n + 1) =
-          (rw number (unsigned_said s at n 8 m.difference above some (omega arith) worths (rw (← number) (omega (arith, said-most d each))) (omega arith) (omega arith) (omega arith) behind)) in
+          (rw number (unsigned_said s at n 8 m.difference above some (omega arith) worths (rw (← number) (omega (arith, said-most d each))) (omega arith) (rw p at lo) (rw p at hi) behind)) in
           let size : (said 8 0 d * 32 + 16 * sign + (n + 1)) / 16 ≡ 2 * said 8 0 d = omega arith in
           let bytes : (said 8 0 d * 32 + 16 * sign + (n + 1)) % 16 ≡ n + 1 = omega (arith, size) in
           record { is = λ k. record { size = said 8 0 d; positive = u.positive; case = inl (size, rw bytes (scans_plus (said 8 0 d) (n + 1) u)) } }
@@ -143,7 +153,8 @@ module _ (s : List ℕ) (at : ℕ) where
       minus_some : sign ≡ 1 → Short at (drop at s) (said 8 0 d * 32 + 16 * sign + (n + 1))
       unfolding bytes_at
       minus_some one =
-          let b : get_or s (at + 1 + 1) 0 ≡ first + 48 = (rw one at (f.is (omega arith))) in
+          let low : 49 ≤ get_or s (at + 1 + 1) 0 = (rw one at lo) in
+          let high : get_or s (at + 1 + 1) 0 ≤ 57 = (rw one at hi) in
           let minus : get_or s (at + 1) 0 ≡ 45 = g.is (omega arith) in
           let two : 2 ≤ n = bool_cases (ltb 1 n) (λ y. ltb-true 1 n y) (λ q. let k : n ≡ 1 = omega (arith, ltb-false 1 n q) in let there : get_or s (at + 1 + 1) 0 ≡ 32 = (rw k at behind) in absurd (omega arith)) in
           let p : n ≡ suc (n - 1) = omega arith in

@@ -1,7 +1,11 @@
 -- What the functions of this crate find at a place of a text, in terms of document 01's definitions (rules' Text).
-use Rattle.std.specs.Prelude.{◌≡◌, ℕ, zero, suc, ◌+◌, ◌-◌, ◌*◌, ◌/◌, ◌%◌, ◌^◌, ◌<◌, ◌≤◌, min, Bool, true, false, ◌⊎◌, List, [], ◌∷◌, length, drop, ◌≢◌, slice_index}
+use Rattle.std.specs.Prelude.{◌≡◌, ℕ, zero, suc, ◌+◌, ◌-◌, ◌*◌, ◌/◌, ◌%◌, ◌^◌, ◌<◌, ◌≤◌, min, max, Bool, true, false, ◌⊎◌, List, [], ◌∷◌, length, drop, slice_index}
+use Rattle.std.specs.Prelude.{Some, None, IfSome, MatchOption}
+use Rattle.std.specs.Prelude.{Option as Maybe}
 use Rattle.std.proofs.Math.Option.{Option, none, some}
 use Rattle.rules.specs.Text.{is_blank, is_digit, digits, positive, Token, nought, plus, minus, letter_d, other, token, word}
+use Rattle.text.specs.declared.Number.{Number}
+use Rattle.text.specs.declared.Scanned.{Scanned as Place}
 use Rattle.text.specs.declared.Token.{Token as Scanned}
 use Rattle.text.specs.declared.Token.TheVariants.{Nought, Plus, Minus, LetterD, Other, Nothing}
 
@@ -21,30 +25,42 @@ unfolding is_blank
 ends_word [] = true
 ends_word (b ∷ s) = is_blank b
 
--- A number as this crate gives it: 0 for none, and never above `most`.
-abbrev pub sized : Option ℕ → ℕ
-sized none = 0
-sized (some n) = min n most
+-- A number as this crate gives it: never above `most`.
+abbrev pub sized : Option ℕ → Option ℕ
+sized none = none
+sized (some n) = some (min n most)
+
+-- The size of a number that was found, if one was.
+abbrev pub size_of : Maybe Number → Option ℕ
+size_of None = none
+size_of (Some n) = some n.value
+
+-- The bytes of s from `from` up to the place `to` pass a test, and the one that stands there, if there is one, does not.
+pub record Behind (tests : ℕ → Bool → Type 0) (s : List ℕ) (from to : ℕ) : Type 0 where
+  pub onward : from ≤ to
+  pub within : to ≤ max from (length s)
+  pub passed : (i : ℕ) → from ≤ i → i < to → tests (slice_index s i) true
+  pub stops : to < length s → tests (slice_index s to) false
 
 -- No digit stands at the place i.
 pub record Stops (s : List ℕ) (i : ℕ) : Type 0 where
   pub stops : i < length s → is_digit (slice_index s i) ≡ false
 
--- The number whose digits say v up to the place `at`, where the text goes on with s; and, if it is one, the place behind it.
-pub record Numbered (v at : ℕ) (s : List ℕ) (value next : ℕ) : Type 0 where
-  pub is_value : value ≡ sized (digits v (word s))
-  pub is_next : (value ≢ 0) → next ≡ at + length (word s)
+-- The number whose digits say v up to the place `at`, where the text goes on with s, if it is one; and then the place behind it.
+pub record Numbered (v at : ℕ) (s : List ℕ) (found : Maybe Number) : Type 0 where
+  pub is_size : size_of found ≡ sized (digits v (word s))
+  pub is_next : IfSome found (λ n. n.next ≡ at + length (word s))
 
 -- From `from`, where the digits before it said `first`, a run of digits goes up to i and says v: what is found from there on is
 -- what is found from the start on. It ends at the last digit, unless v is above `most`.
 pub record Ran (s : List ℕ) (first from v i : ℕ) : Type 0 where
-  pub back : (x n : ℕ) → Numbered v i (drop i s) x n → Numbered first from (drop from s) x n
+  pub back : (found : Maybe Number) → Numbered v i (drop i s) found → Numbered first from (drop from s) found
   pub stops : v ≤ most → Stops s i
 
 -- Where a run stands that has not gone above `most`: what is found from i on with v is what is found from the start.
 pub record Digits (s : List ℕ) (first from v i : ℕ) : Type 0 where
   pub small : v ≤ most
-  pub back : (x n : ℕ) → Numbered v i (drop i s) x n → Numbered first from (drop from s) x n
+  pub back : (found : Maybe Number) → Numbered v i (drop i s) found → Numbered first from (drop from s) found
 
 -- A token as this crate gives it.
 abbrev pub capped : Token → Scanned
@@ -60,28 +76,15 @@ unfolding token
 token_of [] = Nothing
 token_of (b ∷ w) = capped (token (b ∷ w))
 
--- The word that the text s begins with, at the place `at`, as a positive number; and, if it is one, the place behind it.
-pub record Positive (at : ℕ) (s : List ℕ) (value next : ℕ) : Type 0 where
-  pub is_value : value ≡ sized (positive (word s))
-  pub is_next : (value ≢ 0) → next ≡ at + length (word s)
+-- The word that the text s begins with, at the place `at`, as a positive number, if it is one; and then the place behind it.
+pub record Positive (at : ℕ) (s : List ℕ) (found : Maybe Number) : Type 0 where
+  pub is_size : size_of found ≡ sized (positive (word s))
+  pub is_next : IfSome found (λ n. n.next ≡ at + length (word s))
 
--- The same as a token; and, if it is a number or a letter, the place behind it.
-pub record Guessing (at : ℕ) (s : List ℕ) (t : Scanned) (next : ℕ) : Type 0 where
-  pub is_token : t ≡ token_of (word s)
-  pub is_next : (t ≢ Other) → next ≡ at + length (word s)
-
-abbrev pub is_other : Scanned → Bool
-is_other Nought = false
-is_other (Plus n) = false
-is_other (Minus n) = false
-is_other LetterD = false
-is_other Other = true
-is_other Nothing = false
-
--- The word that the text s begins with, at the place `at`, as a token; and the place behind it.
-pub record Wording (at : ℕ) (s : List ℕ) (t : Scanned) (next : ℕ) : Type 0 where
-  pub is_token : t ≡ token_of (word s)
-  pub is_next : next ≡ at + length (word s)
+-- The same as a token, unless it is another word; and then the place behind it.
+pub record Guessing (at : ℕ) (s : List ℕ) (found : Maybe Place) : Type 0 where
+  pub is_token : MatchOption found (token_of (word s) ≡ Other) (λ f. f.token ≡ token_of (word s))
+  pub is_next : IfSome found (λ f. f.next ≡ at + length (word s))
 
 -- The first token of the text s, which begins at the place `at`, and the place behind it.
 pub record Scans (at : ℕ) (s : List ℕ) (t : Scanned) (next : ℕ) : Type 0 where
@@ -97,17 +100,18 @@ OneByte b LetterD = b ≡ 100
 OneByte b Other = ⊥
 OneByte b Nothing = ⊥
 
+-- The byte begins no token of one byte, and is no blank.
+pub record Numeral (b : ℕ) : Type 0 where
+  pub no_blank : is_blank b ≡ false
+  pub no_nought : b ≡ 48 → ⊥
+  pub no_letter : b ≡ 100 → ⊥
+
 -- The byte begins neither a negative number nor a token of one byte, and is no blank.
 pub record Plain (b : ℕ) : Type 0 where
   pub no_blank : is_blank b ≡ false
   pub no_nought : b ≡ 48 → ⊥
   pub no_letter : b ≡ 100 → ⊥
   pub no_sign : b ≡ 45 → ⊥
-
--- How far the byte b is above the digit 0, if it is a digit, and else 10 or more.
-pub record AboveNought (b r : ℕ) : Type 0 where
-  pub few : r ≤ 255
-  pub is : r < 10 → b ≡ r + 48
 
 -- 1 only for a sign, and else 0.
 pub record Sign (b r : ℕ) : Type 0 where

@@ -2,11 +2,5 @@
 use Rattle.text.proofs.Numbers.{ran_high}
 use Rattle.text.proofs.digits_from.Goals as goal
 
-pub returns-then-v-gt1000000000000000000 : goal.returns-then-v-gt1000000000000000000
-returns-then-v-gt1000000000000000000 c = ran_high _ _ _ _ _ _ _ c.run-r.ensures c.if-v-gt1000000000000000000.true c.long.ensures
-
-pub finish-requires : goal.finish-requires
-finish-requires c = record { v_le_most = c.if-v-gt1000000000000000000.false; stops = c.run-r.ensures.stops c.if-v-gt1000000000000000000.false }
-
-pub returns : goal.returns
-returns c = c.run-r.ensures.back _ _ c.finish.ensures
+pub returns-then-n-gt-MOST : goal.returns-then-n-gt-MOST
+returns-then-n-gt-MOST c = ran_high _ _ _ _ _ _ c.run-n.ensures c.if-n-gt-MOST.true c.long.ensures

@@ -1,20 +1,27 @@
 -- `text::positive` meets its contract: the first digit decides whether it can be one, the others are read from there.
 -- Assumes nothing.
-use Rattle.std.proofs.Common.{arith}
+use Rattle.std.proofs.Common.{◌≡◌, ◌-◌, get_or, arith}
 use Rattle.text.proofs.Numbers.{positive_past, positive_bad, positive_on}
 use Rattle.text.proofs.positive.Goals as goal
 
-pub returns-then-s-at : goal.returns-then-s-at
-returns-then-s-at c = positive_past _ _ c.if-s-at.true
+pub returns-in_err-b : goal.returns-in_err-b
+returns-in_err-b c = rw c.from_residual.ensures (positive_past _ _ c.in_err-b.ensures.lookup.3)
 
-pub returns-then-b-lt49 : goal.returns-then-b-lt49
-returns-then-b-lt49 c = positive_bad _ _ _ c.if-s-at.false (λ h. absurd (omega (arith, c.if-b-lt49.true)))
+pub returns-in-49-to-57 : goal.returns-in-49-to-57
+returns-in-49-to-57 c =
+    let there = c.in_ok-b.ensures.lookup.3 in
+    let byte = there.1 0 in
+    let worth : c.from.result ≡ get_or c.args.s.now c.args.at 0 - 48 = omega arith in
+    positive_on _ _ _ there.0 (omega arith) (omega arith) (rw worth at c.digits_from.ensures)
 
-pub returns-then-b-gt57 : goal.returns-then-b-gt57
-returns-then-b-gt57 c = positive_bad _ _ _ c.if-s-at.false (λ h. c.if-b-gt57.true)
+pub returns-in_default : goal.returns-in_default
+returns-in_default c =
+    let there = c.in_ok-b.ensures.lookup.3 in
+    let byte = there.1 0 in
+    positive_bad _ _ there.0 (λ h. omega arith)
 
-pub digits_from-requires : goal.digits_from-requires
-digits_from-requires c = omega (arith, c.wide.ensures.0)
-
-pub returns : goal.returns
-returns c = positive_on _ _ _ _ c.if-s-at.false c.if-b-lt49.false c.if-b-gt57.false (rw c.wide.ensures.0 at c.digits_from.ensures)
+pub returns-in_default-2 : goal.returns-in_default-2
+returns-in_default-2 c =
+    let there = c.in_ok-b.ensures.lookup.3 in
+    let byte = there.1 0 in
+    positive_bad _ _ there.0 (λ h. omega arith)

@@ -1,5 +1,6 @@
 -- `text::run` meets its contract. The loop's invariant: the number so far is at most `most`, and what is found from i on with
--- it is what is found from the start. The measure is what is left of the text. Assumes nothing.
+-- it is what is found from the start. The measure is what is left of
+-- the text. Assumes nothing.
 use Rattle.std.proofs.Common.{◌-◌, length}
 use Rattle.text.specs.Scan.{Digits}
 use Rattle.text.proofs.run.Given as goal
