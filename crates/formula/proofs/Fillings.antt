@@ -15,7 +15,7 @@ use Rattle.clauses.specs.Codes.{literal_of}
 use Rattle.clauses.specs.Store.{written, Holds}
 use Rattle.clauses.proofs.Heads.{written-long}
 use Rattle.clauses.proofs.Holding.{holds-append, holds_literals, numbered_more}
-use Rattle.std.specs.Prelude.{Result, Ok, Err}
+use Rattle.std.specs.Prelude.{Ok, Err}
 use Rattle.formula.specs.Body.{Placed, AllBelow, ClauseDone, ClauseStopped, ReadsClause, Closes, BodyDone, BodyStopped, ReadsBody}
 use Rattle.formula.specs.declared.body.Progress.{Progress}
 use Rattle.formula.specs.declared.Fault.{Fault}
@@ -219,18 +219,3 @@ module _ (v c : ℕ) (s : List ℕ) (at : ℕ) (heads₀ lits₀ heads lits : Li
             within = done.within;
             so_far = omega arith;
           }
-
--- Lengths stay.
-
-pub reads-long : (v : ℕ) (s : List ℕ) (at : ℕ) (before : List ℕ) (used k : ℕ) (after : List ℕ) (r : Result Progress Stopped) → used ≤ length before
-    → ReadsClause v s at before used k after r → length after ≡ length before
-reads-long v s at before used k after (Ok done) h r = placed_length before used r.case.new after done.used h r.case.placed
-reads-long v s at before used k after (Err stop) h r = go stop.fault r.case.0
-  where
-    go : (why : Fault) → ClauseStopped v s at before used after stop.at stop.used why → length after ≡ length before
-    go Unreadable b = placed_length before used b.new after stop.used h b.placed
-    go TooShort b = placed_length before used b.new after stop.used h b.placed
-
-pub closes_long : (before : List ℕ) (k : ℕ) (clause : Progress) (after : List ℕ) (r : Result (Unit {0}) Stopped) → Closes before k clause after r → length after ≡ length before
-closes_long before k clause after (Ok done) r = rw (r.case.1, written-long before k (2 * (k + 1)) clause.used)
-closes_long before k clause after (Err stop) r = rw r.case.1

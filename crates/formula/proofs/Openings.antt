@@ -1,10 +1,8 @@
 -- Comment lines, and the first place of a byte: laws for the loops of src/opening.rt. Assumes nothing.
-use Rattle.std.proofs.Common.{ℕ, zero, suc, ◌+◌, ◌-◌, ◌≤◌, ◌<◌, ◌≡◌, ◌≢◌, min, true, false, List, [], ◌∷◌, eqb, ltb, length, take, drop, get_or}
-use Rattle.std.proofs.Common.{refl, sym, ap, ◌∙◌, add-one, arith, eq-eqb, ne_eqb, ltb-true, ltb-false, length-drop, drop-drop, drop_of_length-le, drop-cons}
-use Rattle.std.proofs.Math.Seq.{slice}
+use Rattle.std.proofs.Common.{ℕ, zero, suc, ◌+◌, ◌≤◌, ◌<◌, ◌≡◌, ◌≢◌, true, false, List, [], ◌∷◌, eqb, length, drop, get_or}
+use Rattle.std.proofs.Common.{refl, sym, ap, ◌∙◌, add-one, arith, eq-eqb, ne_eqb, drop_of_length-le, drop-cons}
 use Rattle.meaning.proofs.Truth.{bool_cases}
 use Rattle.rules.specs.Formula.{after_comments, before, behind}
-use Rattle.clauses.proofs.Parts.{part_rest, part_slice}
 use Rattle.formula.specs.Opening.{AfterLine, AfterComments, FirstOf, FirstAt, Behind}
 
 -- The first place of a byte
@@ -22,27 +20,6 @@ first_of x (b ∷ s) (suc r) h f e =
       is_behind = rw (test, behind) (rest.is_behind ∙ rw (add-one r, add-one (suc r)));
       within = omega (arith, rest.within);
     }
-
-pub first_at : (x : ℕ) (s : List ℕ) (at r : ℕ) → at ≤ length s → FirstOf x (take (length s - at) (drop at s)) r → FirstAt x s at (at + r)
-first_at x s at r h f =
-    let all : FirstOf x (drop at s) r = rw (part_rest s at) at f in
-    let within : at + r ≤ length s = omega (arith, length-drop at s, all.within) in
-    let part : take r (drop at s) ≡ slice at (at + r) s =
-    ap (λ (n : ℕ). take n (drop at s)) (let z : r ≡ at + r - at = omega arith in z) ∙ part_slice s at (at + r) (omega arith) within in
-    record {
-      is_before = all.is_before ∙ part;
-      is_behind = all.is_behind ∙ drop-drop (r + 1) at s ∙ ap (λ (n : ℕ). drop n s) (let z : at + (r + 1) ≡ at + r + 1 = omega arith in z);
-      later = omega arith;
-      within = within;
-    }
-
-pub behind_place : (s : List ℕ) (place : ℕ) → place ≤ length s → Behind s place (min (length s) (place + 1))
-behind_place s place h =
-    bool_cases (ltb place (length s))
-    (λ y. let l = ltb-true place (length s) y in let e : min (length s) (place + 1) ≡ place + 1 = omega arith in rw e (record { same = refl; later = omega arith; within = omega arith }))
-    (λ n. let g = ltb-false place (length s) n in
-    let e : min (length s) (place + 1) ≡ length s = omega arith in
-    rw e (record { same = drop_of_length-le s {i = length s} (omega arith) ∙ sym (drop_of_length-le s {i = place + 1} (omega arith)); later = omega arith; within = omega arith }))
 
 -- The rest of a comment line
 
@@ -64,9 +41,6 @@ line_passed s at feed r f b =
 pub record Passing (s : List ℕ) (at : ℕ) : Type 0 where
   pub same : after_comments false s ≡ after_comments false (drop at s)
   pub within : at ≤ length s
-
-pub passing_start : (s : List ℕ) → Passing s 0
-passing_start s = record { same = refl; within = omega arith }
 
 module _ (s : List ℕ) (at : ℕ) (p : Passing s at) where
   pub passing_end : length s ≤ at → AfterComments s at

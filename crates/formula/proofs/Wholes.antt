@@ -1,5 +1,5 @@
 -- A whole formula: its end, its clauses, its first line. Assumes nothing.
-use Rattle.std.proofs.Common.{ℕ, ◌+◌, ◌*◌, ◌-◌, ◌/◌, ◌≤◌, ◌<◌, ◌≡◌, ◌≢◌, true, false, List, [], ◌∷◌, length, take, drop}
+use Rattle.std.proofs.Common.{ℕ, ◌+◌, ◌*◌, ◌-◌, ◌≤◌, ◌≡◌, ◌≢◌, true, false, List, [], ◌∷◌, length, take, drop}
 use Rattle.std.proofs.Common.{refl, sym, ap, subst, ◌∙◌, inl, inr, ⊎_elim, arith, length-drop}
 use Rattle.std.proofs.Math.Option.{Option, none, some}
 use Rattle.meaning.specs.Meaning.{Clause, Formula}
@@ -15,7 +15,7 @@ use Rattle.text.proofs.Tokens.{scanned_nothing, scanned_token}
 use Rattle.clauses.proofs.Parts.{part_slice}
 use Rattle.std.specs.Prelude.{Option as Maybe, Some, None, Result, Ok, Err}
 use Rattle.formula.specs.Opening.{AfterComments, FirstAt, Behind, header_of}
-use Rattle.formula.specs.Body.{BodyDone, BodyStopped, ReadsBody, greatest}
+use Rattle.formula.specs.Body.{BodyDone, BodyStopped, ReadsBody}
 use Rattle.formula.specs.Reading.{Ended, rest_of, FinishCase, Finishes, ReadStopped, ReadCase, ReadsRest, Reads}
 use Rattle.formula.specs.declared.body.Progress.{Progress}
 use Rattle.formula.specs.declared.Fault.{Fault}
@@ -31,14 +31,6 @@ ended_yes s at t n r e = record { case = scanned_nothing at (drop at s) n (rw e 
 
 pub ended_no : (s : List ℕ) (at : ℕ) (t : Found) (n : ℕ) → Scans at (drop at s) t n → t ≢ Nothing → Ended (tokens (drop at s)) false
 ended_no s at t n r f = let next = scanned_token s at t n r f in record { case = (next.tok, tokens (drop n s), next.is) }
-
-pub finish_bad : (s : List ℕ) (done : Progress) (v c : ℕ) (lits : List ℕ) → Ended (tokens (drop done.next s)) false
-    → Finishes s done v c lits (Err (record { fault = Unreadable; at = done.next; used = done.used; closed = c }))
-finish_bad s done v c lits e = record { case = (e.case, refl) }
-
-pub finish_good : (s : List ℕ) (done : Progress) (v c : ℕ) (lits : List ℕ) (top : ℕ) → Ended (tokens (drop done.next s)) true → top ≡ greatest (take done.used lits) / 2
-    → Finishes s done v c lits (Ok (record { vars = v; clauses = c; used = done.used; top = top }))
-finish_good s done v c lits top e t = record { case = (e.case, rw t) }
 
 -- The clauses
 
@@ -56,9 +48,6 @@ rest_more v c ts rest cs e t us q = rw (e, q)
 rest_none : (v c : ℕ) (ts : List Token) → read_clauses v c ts ≡ none → rest_of v c ts ≡ none
 unfolding rest_of
 rest_none v c ts e = rw e
-
-pub rest_short : (v c : ℕ) (s : List ℕ) (line : ℕ) (heads₀ lits₀ heads lits : List ℕ) → line ≤ length s → length heads₀ < 3 → ReadsRest v c s line heads₀ lits₀ heads lits (Err (record { fault = TooShort; at = line; used = 0; closed = 0 }))
-rest_short v c s line heads₀ lits₀ heads lits l h = record { case = record { short = inr (omega arith); within = l; few = omega arith } }
 
 module _ (v c : ℕ) (s : List ℕ) (line at : ℕ) (b : Behind s line at) (heads₀ lits₀ : List ℕ) where
   -- The tokens behind the line are those from `at` on.
@@ -88,9 +77,6 @@ module _ (v c : ℕ) (s : List ℕ) (line at : ℕ) (b : Behind s line at) (head
     module _ (done : Progress) (read : ReadsBody v c s at heads lits₀ heads' lits' (Ok done)) where
       body : BodyDone v c s at heads' lits' done.next done.used
       body = read.case
-
-      pub rest_fits : done.used ≤ length lits'
-      rest_fits = body.holds.store.fits
 
       formula_of_lem : Formula
       formula_of_lem = record { vars = v; clauses = body.clauses }

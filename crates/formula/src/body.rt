@@ -2,7 +2,7 @@
 //
 // The turns of a loop here can be told from what is returned: one for each literal that was stored or clause that was
 // closed, and the bytes passed for the leaves below.
-ghost use Rattle.std.specs.Prelude.{◌≡◌, ◌+◌, ◌*◌, ◌<◌, ◌≤◌, ◌^◌, length, set, []};
+ghost use Rattle.std.specs.Prelude.{◌≡◌, ◌+◌, ◌*◌, ◌<◌, ◌≤◌, ◌^◌, length, []};
 ghost use Rattle.rules.specs.Limits.{max_variable, max_clauses};
 ghost use Rattle.clauses.specs.Store.{Holds};
 ghost use Rattle.formula.specs.Body.{item_of, ReadsClause, Closes, ReadsBody, greatest};
@@ -26,14 +26,6 @@ pub fn item_of(t: Token, vars: u64) -> Result<Option<u32>, NoLiteral>
         Token::Minus(v) if v <= vars => Ok(Some((2 * v + 1) as u32)),
         _ => Err(NoLiteral),
     }
-}
-
-// A literal goes to its place.
-pub fn push(lits: &mut [u32], at: usize, l: u32)
-    requires { at < length lits.old }
-    ensures { lits.new ≡ set lits.old at l }
-{
-    lits[at] = l;
 }
 
 // How far reading came: the place in the text behind what was read, and the end of the literals that were stored.

@@ -6,24 +6,15 @@ use Rattle.formula.proofs.body.read_clause.Goals as goal
 pub loop-l-init : goal.loop-l-init
 loop-l-init c = reading-start _ _ _ _ _ c.requires.at_in_bounds c.requires.used_in_bounds
 
-pub shape_of-lits-then-lits-w : goal.shape_of-lits-then-lits-w
-shape_of-lits-then-lits-w c = c.loop-l.invariant.same
-
 pub returns-then-lits-w : goal.returns-then-lits-w
 returns-then-lits-w c =
     record
     { case = (reading-long _ (omega (arith, c.requires)) _ _ _ _ _ _ _ c.loop-l.invariant _ _ c.token_at-found.ensures _ (ap Ok (sym c.in-Ok-Some.field-0-is) ∙ sym c.in-Ok-Some.is ∙ c.item_of.ensures) c.if-lits-w.true, refl) }
 
-pub shape_of-lits-in-Ok-None : goal.shape_of-lits-in-Ok-None
-shape_of-lits-in-Ok-None c = c.loop-l.invariant.same
-
 pub returns-in-Ok-None : goal.returns-in-Ok-None
 returns-in-Ok-None c =
     record
     { case = reading_done _ (omega (arith, c.requires)) _ _ _ _ _ _ _ c.loop-l.invariant _ _ c.token_at-found.ensures (ap Ok (sym c.in-Ok-None.field-0-is) ∙ sym c.in-Ok-None.is ∙ c.item_of.ensures) }
-
-pub shape_of-lits-in-Err : goal.shape_of-lits-in-Err
-shape_of-lits-in-Err c = c.loop-l.invariant.same
 
 pub returns-in-Err : goal.returns-in-Err
 returns-in-Err c =
