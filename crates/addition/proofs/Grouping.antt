@@ -5,8 +5,6 @@ use Rattle.std.proofs.Common.{nat_eq, length-append, true≢false, refl, sym, ap
 use borrow.Author.Tests.{eqb-true, eq-eqb}
 use Rattle.std.proofs.Math.Seq.{take-append_seam, drop-append_seam}
 use Rattle.std.specs.List.{IsChunkByPrefix}
-use Rattle.std.specs.Fn.{Called, ReturnsEach, AlwaysReturns}
-use denote.Param.Members.{Mut}
 use Rattle.std.proofs.Math.Option.{Option, none, some}
 use Rattle.std.proofs.Math.Seq.{slice, length-slice}
 use Rattle.meaning.specs.Meaning.{Literal, Clause}
@@ -237,15 +235,6 @@ accepted_none fault room needed (Err f) n s = cc
 -- Whether a code goes with those in front of it.
 abbrev pub goes_on : ℕ → ℕ → Bool
 goes_on code next = nat_eq (next % 2) 0
-
--- What a closure computes at each call, it computes at all calls.
-module _ {F X R : Type 0} (g : Mut F X R) (P : X → R → Type 0) (h : (f : F) (a : X) (r : R) (f' : F) → Called g f a r f' → P a r) where
-  each_returns : (xs : List X) (f : F) → ReturnsEach g P f xs
-  each_returns [] f = tt
-  each_returns (a ∷ xs) f = λ r f' c. (h f a r f' c, each_returns xs f')
-
-  pub always_returns : (f : F) → AlwaysReturns g P f
-  always_returns f = record { at = λ xs. each_returns xs f }
 
 -- The first group of these codes, and those behind it.
 module _ (codes group rest : List ℕ) (begins : GroupAt codes 0) (is : codes ≡ group ++ rest) (some : 0 < length group) (cut : IsChunkByPrefix goes_on codes (length group)) where

@@ -1,7 +1,8 @@
 -- The groups that were judged say what is left to judge, or settle it. Assumes nothing.
 use Rattle.std.proofs.Common.{ap, ◌∙◌, rules, tests}
+use Rattle.std.proofs.lemmas.List.Sorted.{answers_always}
 use Rattle.std.specs.Slice.Iter.{chunk_by_rest}
-use Rattle.addition.proofs.Grouping.{goes_on, always_returns, going_start, going_fit, going_on, going_stop, going_end}
+use Rattle.addition.proofs.Grouping.{goes_on, going_start, going_fit, going_on, going_stop, going_end}
 use Rattle.addition.proofs.judge_groups.Goals as goal
 
 pub loop-group-init : goal.loop-group-init
@@ -15,13 +16,13 @@ judge_group-judged-requires-clause-fit c = going_fit _ _ _ _ _ _ _ _ _ _ _ _ _ _
 pub returns-then-is_err : goal.returns-then-is_err
 returns-then-is_err c =
     let cut = c.in-Some.ensures.steps in
-    going_stop _ _ _ _ _ _ _ _ _ _ _ _ _ _ c.loop-group.invariant _ _ cut.0 cut.1 (cut.2 goes_on (always_returns _ _ (λ f a r f' k. search (rules, tests)) _)).1 _ _ _ _ _ c.judge_group-judged.ensures
+    going_stop _ _ _ _ _ _ _ _ _ _ _ _ _ _ c.loop-group.invariant _ _ cut.0 cut.1 (cut.2 goes_on (answers_always _ _ _ (λ f a r f' k. search (rules, tests)))).1 _ _ _ _ _ c.judge_group-judged.ensures
     _ c.plus-turns.ensures cc
 
 pub loop-group-preserved : goal.loop-group-preserved
 loop-group-preserved c =
     let cut = c.in-Some.ensures.steps in
-    going_on _ _ _ _ _ _ _ _ _ _ _ _ _ _ c.loop-group.invariant _ _ cut.0 cut.1 (cut.2 goes_on (always_returns _ _ (λ f a r f' k. search (rules, tests)) _)).1 _ _ _ _ _ c.judge_group-judged.ensures
+    going_on _ _ _ _ _ _ _ _ _ _ _ _ _ _ c.loop-group.invariant _ _ cut.0 cut.1 (cut.2 goes_on (answers_always _ _ _ (λ f a r f' k. search (rules, tests)))).1 _ _ _ _ _ c.judge_group-judged.ensures
     _ c.plus-turns.ensures cc
 
 pub returns : goal.returns
