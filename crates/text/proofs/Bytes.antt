@@ -1,10 +1,9 @@
 -- Eight bytes as one number: what its bytes are, what they say as digits, and what is left of them once they are moved up.
 -- Assumes nothing.
-use Rattle.std.proofs.Common.{◌≡◌, ℕ, zero, suc, ◌+◌, ◌*◌, ◌/◌, ◌%◌, ◌^◌, ◌<◌, ◌≤◌, false, eqb, List, get_or}
+use Rattle.std.proofs.Common.{◌≡◌, ℕ, zero, suc, ◌+◌, ◌*◌, ◌/◌, ◌%◌, ◌^◌, ◌<◌, ◌≤◌, eqb, List, get_or}
 use Rattle.std.proofs.Common.{sym, refl, ap, ◌∙◌, mod-eq_of_lt, mul_assoc, suc-add, pow-suc, zero-add, mul-one, arith, pow-add, eqb-true}
 use Rattle.std.proofs.Math.Arith.{mod-mul}
 use lib.Bits.{bit_and, and_block, and_high}
-use Rattle.meaning.proofs.Truth.{clash}
 use Rattle.text.specs.Scan.{bytes_at, Bytes, EachUpTo, EachAtMost, Tells, said}
 
 -- A number as its lowest byte and the rest
@@ -148,9 +147,6 @@ module _ (d : ℕ) (low : bit_and d 17361641481138401520 ≡ 0) where
       let each = each_low 8 d low in
       let top : d / 72057594037927936 ≡ d / 256 / 256 / 256 / 256 / 256 / 256 / 256 = omega arith in
       omega (arith, top, each.1.1.1.1.1.1.1.0)
-
-pub digits-none : (d : ℕ) → Tells false (EachAtMost 9 8 d)
-digits-none d = record { yes = λ y. absurd (clash y refl) }
 
 -- The number of eight digits
 

@@ -80,9 +80,6 @@ module _ (s : List ℕ) (first from v i : ℕ) (d : Digits s first from v i) whe
           stops = λ small. absurd (omega arith);
         }
 
-pub stops_past : (s : List ℕ) (i : ℕ) → length s ≤ i → Stops s i
-stops_past s i l = record { stops = λ k. absurd (omega arith) }
-
 pub stops_at : (s : List ℕ) (i : ℕ) → is_digit (get_or s i 0) ≡ false → Stops s i
 stops_at s i n = record { stops = λ k. n }
 

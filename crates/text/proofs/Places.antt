@@ -1,9 +1,8 @@
 -- What stands at a place of a text: blanks, words and digits at `drop i s`, by the byte that is there. Assumes nothing.
 use Rattle.std.proofs.Common.{◌≡◌, ℕ, zero, suc, ◌+◌, ◌-◌, ◌<◌, ◌≤◌, Bool, true, false, not, ltb, List, [], ◌∷◌, length, get_or, drop}
-use Rattle.std.proofs.Common.{sym, refl, ap, ◌∙◌, add-one, arith, length-drop, drop_of_length-le, get_or-drop, drop-cons, ltb-false, ltb-true, ne_eqb, le-leb}
+use Rattle.std.proofs.Common.{sym, refl, ap, ◌∙◌, add-one, arith, length-drop, drop_of_length-le, get_or-drop, drop-cons, ltb-false, ltb-true, le-leb}
 use Rattle.std.proofs.Common.{Option as Maybe, Some, None, MatchOption, IsTrue, Bor}
 use Rattle.std.specs.Slice.{IsItemAt}
-use borrow.Author.Tests.{lt-leb}
 use Rattle.meaning.proofs.Truth.{bool_cases, both_and, clash}
 use Rattle.rules.specs.Text.{is_blank, is_digit, word}
 use Rattle.text.specs.Scan.{blanks, ends_word, Behind}
@@ -14,30 +13,9 @@ pub blank_space : (b : ℕ) → b ≡ 32 → true ≡ is_blank b
 unfolding is_blank
 blank_space b e = rw e
 
--- One of the four, or none of them.
-
-pub blank_one : (b : ℕ) → ((b ≡ 32 → ⊥) → (b ≡ 9 → ⊥) → (b ≡ 13 → ⊥) → (b ≡ 10 → ⊥) → ⊥) → true ≡ is_blank b
-unfolding is_blank
-blank_one b one = bool_cases (is_blank b) sym (λ n. absurd (one (no 32 n refl) (no 9 n refl) (no 13 n refl) (no 10 n refl)))
-  where
-    no : (x : ℕ) → is_blank b ≡ false → true ≡ is_blank x → b ≡ x → ⊥
-    no x n t e = clash (sym t) (ap is_blank (sym e) ∙ n)
-
-pub blank_none : (b : ℕ) → (b ≡ 32 → ⊥) → (b ≡ 9 → ⊥) → (b ≡ 13 → ⊥) → (b ≡ 10 → ⊥) → false ≡ is_blank b
-unfolding is_blank
-blank_none b p q r t = rw (ne_eqb b 32 p, ne_eqb b 9 q, ne_eqb b 13 r, ne_eqb b 10 t)
-
 pub digit_by : (b : ℕ) → 48 ≤ b → b ≤ 57 → is_digit b ≡ true
 unfolding is_digit
 digit_by b lo hi = both_and _ _ (le-leb 48 b lo) (le-leb b 57 hi)
-
-pub no_digit_below : (b : ℕ) → b < 48 → is_digit b ≡ false
-unfolding is_digit
-no_digit_below b h = rw (lt-leb 48 b h)
-
-pub no_digit_above : (b : ℕ) → 57 < b → is_digit b ≡ false
-unfolding is_digit
-no_digit_above b h = let lo : 48 ≤ b = omega arith in rw (le-leb 48 b lo, lt-leb b 57 h)
 
 abbrev pub word_length : List ℕ → ℕ
 word_length s = length (word s)

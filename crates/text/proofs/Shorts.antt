@@ -105,9 +105,6 @@ sign_by b r e =
 -- The number and what is before it
 
 module _ (s : List ℕ) (at : ℕ) where
-  pub short_none : Short at (drop at s) 0
-  short_none = record { is = λ l. absurd (omega arith) }
-
   module _ (h : at + 1 < length s) (space : get_or s at 0 ≡ 32) where
     one_blank : is_blank (get_or s (at + 1) 0) ≡ false → at + 1 ≡ at + blanks (drop at s)
     one_blank n = omega (arith, blanks_on s at (omega arith) (sym (blank_space (get_or s at 0) space)), blanks-stop s (at + 1) h n)
