@@ -1,4 +1,4 @@
--- The laws of the crate. Callers use `Limits` and `Tokens`; the proofs of this crate's functions use `Places`.
+-- The laws of the crate. Callers use `Tokens`; the proofs of this crate's functions use `Places`.
 pub mod Places
 pub mod Numbers
 pub mod Wordings

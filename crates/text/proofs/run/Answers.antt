@@ -1,11 +1,8 @@
 use Rattle.std.proofs.Common.{sym, ◌∙◌}
 use Rattle.rules.specs.Text.{is_digit}
 use Rattle.rules.proofs.Words.{digit_range}
-use Rattle.text.proofs.Numbers.{digits-start, digits_on, ran_end, ran_long, stops_at}
+use Rattle.text.proofs.Numbers.{digits_on, ran_end, ran_long, stops_at}
 use Rattle.text.proofs.run.Goals as goal
-
-pub loop-i-init : goal.loop-i-init
-loop-i-init c = digits-start _ _ _ c.requires
 
 pub returns-else-is_ascii_digit : goal.returns-else-is_ascii_digit
 unfolding is_digit

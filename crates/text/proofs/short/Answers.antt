@@ -3,9 +3,6 @@ use Rattle.std.proofs.Common.{◌+◌, ◌≤◌, get_or, arith}
 use Rattle.text.proofs.Shorts.{sign_by, short_some}
 use Rattle.text.proofs.short.Goals as goal
 
-pub number_of-requires : goal.number_of-requires
-number_of-requires c = c.all_digits.ensures.yes c.if-not-all_digits.false
-
 pub returns : goal.returns
 returns c =
     let few : (1 ≤ c.before_space-n.result) × (c.before_space-n.result ≤ 7) = grind arith in
