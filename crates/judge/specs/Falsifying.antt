@@ -1,7 +1,7 @@
 -- What making the literals of a clause false comes to, in terms of document 01's rules 1, 2 and 4 (rules' Judging).
-use Rattle.std.specs.Prelude.{ℕ, ◌+◌, ◌<◌, ◌≤◌, ◌≡◌, ◌⊎◌, true, false, ◌||◌, List, [], ◌∷◌, ◌++◌, map, length, get_or, Result, Ok, Err}
+use Rattle.std.specs.Prelude.{ℕ, ◌+◌, ◌<◌, ◌≤◌, ◌≡◌, ◌⊎◌, true, false, ◌||◌, List, [], ◌∷◌, ◌++◌, map, length, get_or, Option, Some, None, Result, Ok, Err}
 use Rattle.meaning.specs.Meaning.{Clause}
-use Rattle.rules.specs.Judging.{opposite, has_opposites, Trail, some_true}
+use Rattle.rules.specs.Judging.{opposite, has_opposites, without, Trail, some_true}
 use Rattle.clauses.specs.Codes.{literal_of, opposite_code}
 use Rattle.assignment.specs.Marks.{Shows, Laid}
 use Rattle.judge.specs.declared.falsifying.Obstacle.{Obstacle}
@@ -11,22 +11,27 @@ use Rattle.judge.specs.declared.falsifying.Obstacle.TheVariants.{SomeTrue, TooSh
 abbrev pub Outcome : Type 0
 Outcome = Result (Unit {0}) Obstacle
 
--- A literal other than q that was not true is false from now on.
-pub record MadeFalse (marks : List ℕ) (x q : ℕ) (marks' : List ℕ) : Type 0 where
-  pub other : x ≡ q → ⊥
+-- A literal other than the one that is kept, if one is, that was not true is false from now on.
+pub record MadeFalse (marks : List ℕ) (x : ℕ) (kept : Option ℕ) (marks' : List ℕ) : Type 0 where
+  pub other : kept ≡ Some x → ⊥
   pub free : get_or marks (opposite_code x) 0 ≡ 0
   pub shows : (a : Trail) → Shows marks a → Shows marks' (opposite (literal_of x) ∷ a)
 
 -- What making one literal false came to.
-abbrev pub OneCase : List ℕ → List ℕ → ℕ → ℕ → ℕ → List ℕ → ℕ → Outcome → Type 0
-OneCase marks tape t x q marks' t' (Ok u) = ((x ≡ q) × (marks' ≡ marks)) ⊎ MadeFalse marks x q marks'
-OneCase marks tape t x q marks' t' (Err SomeTrue) = (x ≡ q → ⊥) × (get_or marks (opposite_code x) 0 ≡ 0 → ⊥) × (t' ≡ t)
-OneCase marks tape t x q marks' t' (Err TooShort) = (length tape ≤ t) × (t' ≡ t)
+abbrev pub OneCase : List ℕ → List ℕ → ℕ → ℕ → Option ℕ → List ℕ → ℕ → Outcome → Type 0
+OneCase marks tape t x kept marks' t' (Ok u) = ((kept ≡ Some x) × (marks' ≡ marks)) ⊎ MadeFalse marks x kept marks'
+OneCase marks tape t x kept marks' t' (Err SomeTrue) = (kept ≡ Some x → ⊥) × (get_or marks (opposite_code x) 0 ≡ 0 → ⊥) × (t' ≡ t)
+OneCase marks tape t x kept marks' t' (Err TooShort) = (length tape ≤ t) × (t' ≡ t)
 
-pub record FalsifiesOne (marks tape : List ℕ) (t x q : ℕ) (marks' tape' : List ℕ) (r : Outcome) (t' : ℕ) : Type 0 where
+pub record FalsifiesOne (marks tape : List ℕ) (t x : ℕ) (kept : Option ℕ) (marks' tape' : List ℕ) (r : Outcome) (t' : ℕ) : Type 0 where
   pub laid : Laid marks tape t marks' tape' t'
   pub few : t' ≤ t + 1
-  pub case : OneCase marks tape t x q marks' t' r
+  pub case : OneCase marks tape t x kept marks' t' r
+
+-- The literals of a clause other than the one that is kept, if one is.
+abbrev pub others_of : Option ℕ → List ℕ → Clause
+others_of None clause = map literal_of clause
+others_of (Some q) clause = without (literal_of q) (map literal_of clause)
 
 -- How many literals of so many were passed.
 abbrev pub PassedCase : ℕ → ℕ → ℕ → ℕ → Outcome → Type 0

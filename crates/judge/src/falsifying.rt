@@ -7,7 +7,7 @@ ghost use Rattle.std.specs.Prelude.{◌≡◌, ◌<◌, ◌≤◌, map, length};
 ghost use Rattle.rules.specs.Judging.{without};
 ghost use Rattle.clauses.specs.Codes.{literal_of};
 ghost use Rattle.assignment.specs.Marks.{Paired, Marked};
-ghost use Rattle.judge.specs.Falsifying.{FalsifiesOne, FalsifiesOthers, FalsifiesClause};
+ghost use Rattle.judge.specs.Falsifying.{FalsifiesOne, others_of, FalsifiesOthers, FalsifiesClause};
 
 use assignment::Assignment;
 use clauses::Timed;
@@ -20,13 +20,13 @@ pub enum Obstacle {
     TooShort,
 }
 
-// The literal `x` becomes false, unless it is `q`.
-fn falsify_one(a: &mut Assignment, x: u32, q: u32) -> Result<(), Obstacle>
+// The literal `x` becomes false, unless it is `kept`.
+fn falsify_one(a: &mut Assignment, x: u32, kept: Option<u32>) -> Result<(), Obstacle>
     requires paired { Paired a.old.marks.now }
     requires x_in_bounds { x < length a.old.marks.now }
-    ensures { FalsifiesOne a.old.marks.now a.old.tape.now a.old.t x q a.new.marks.now a.new.tape.now result a.new.t }
+    ensures { FalsifiesOne a.old.marks.now a.old.tape.now a.old.t x kept a.new.marks.now a.new.tape.now result a.new.t }
 {
-    if x == q {
+    if kept == Some(x) {
         return Ok(());
     }
     if a.marks[clauses::opposite(x) as usize] != 0 {
@@ -39,14 +39,14 @@ fn falsify_one(a: &mut Assignment, x: u32, q: u32) -> Result<(), Obstacle>
     Ok(())
 }
 
-// The literals of the clause other than `q` become false. The turns are those of the literals that were passed.
-pub fn falsify_others(a: &mut Assignment, clause: &[u32], q: u32) -> Timed<Result<(), Obstacle>>
+// The literals of the clause other than `kept` become false. The turns are those of the literals that were passed.
+fn falsify_all(a: &mut Assignment, clause: &[u32], kept: Option<u32>) -> Timed<Result<(), Obstacle>>
     requires paired { Paired a.old.marks.now }
     requires marked { Marked clause.now a.old.marks.now }
-    ensures { FalsifiesOthers clause.now (without (literal_of q) (map literal_of clause.now)) a.old.marks.now a.old.tape.now a.old.t a.new.marks.now a.new.tape.now result.value a.new.t result.turns }
+    ensures { FalsifiesOthers clause.now (others_of kept clause.now) a.old.marks.now a.old.tape.now a.old.t a.new.marks.now a.new.tape.now result.value a.new.t result.turns }
 {
     for (passed, x) in clause.iter().enumerate() {
-        if let Err(obstacle) = falsify_one(a, *x, q) {
+        if let Err(obstacle) = falsify_one(a, *x, kept) {
             return Timed {
                 value: Err(obstacle),
                 turns: passed as u64,
@@ -59,11 +59,20 @@ pub fn falsify_others(a: &mut Assignment, clause: &[u32], q: u32) -> Timed<Resul
     }
 }
 
-// All literals of the clause become false. (No literal has the number that is left out.)
+// The literals of the clause other than `q` become false. The turns are those of the literals that were passed.
+pub fn falsify_others(a: &mut Assignment, clause: &[u32], q: u32) -> Timed<Result<(), Obstacle>>
+    requires paired { Paired a.old.marks.now }
+    requires marked { Marked clause.now a.old.marks.now }
+    ensures { FalsifiesOthers clause.now (without (literal_of q) (map literal_of clause.now)) a.old.marks.now a.old.tape.now a.old.t a.new.marks.now a.new.tape.now result.value a.new.t result.turns }
+{
+    falsify_all(a, clause, Some(q))
+}
+
+// All literals of the clause become false. The turns are those of the literals that were passed.
 pub fn falsify_clause(a: &mut Assignment, clause: &[u32]) -> Timed<Result<(), Obstacle>>
     requires paired { Paired a.old.marks.now }
     requires marked { Marked clause.now a.old.marks.now }
     ensures { FalsifiesClause clause.now a.old.marks.now a.old.tape.now a.old.t a.new.marks.now a.new.tape.now result.value a.new.t result.turns }
 {
-    falsify_others(a, clause, u32::MAX)
+    falsify_all(a, clause, None)
 }

@@ -1,5 +1,5 @@
 use Rattle.judge.proofs.Falling.{falling_stop, falling_on, falling_end}
-use Rattle.judge.proofs.falsifying.falsify_others.Goals as goal
+use Rattle.judge.proofs.falsifying.falsify_all.Goals as goal
 
 pub returns-in-Err : goal.returns-in-Err
 returns-in-Err c =

@@ -1,0 +1,7 @@
+-- `falsifying::falsify_all` meets its contract. The loop's invariant: the literals so far are false or left out, and those
+-- that are left say what all say (`Falling`). Assumes nothing.
+use Rattle.judge.proofs.Falling.{Falling}
+use Rattle.judge.proofs.falsifying.falsify_all.Given as goal
+
+abbrev pub invariant-loop-passed : goal.invariant-loop-passed
+invariant-loop-passed l = Falling l.clause l.kept l.initial.a.marks.now l.initial.a.tape.now l.initial.a.t l.a.marks.now l.a.tape.now l.passed l.a.t
