@@ -12,7 +12,7 @@ use Rattle.clauses.specs.Store.{live_of}
 use Rattle.clauses.specs.Counting.{Counts}
 use Rattle.clauses.specs.Moving.{Stored}
 use Rattle.clauses.proofs.Literals.{literal-opposite}
-use Rattle.assignment.specs.Marks.{Marked, Laid, Undoable, Undone}
+use Rattle.assignment.specs.Marks.{Laid, Undoable, Undone}
 use Rattle.assignment.proofs.Marking.{laid_none, laid_join, laid_undoable}
 use Rattle.groups.specs.Matching.{GroupAt, NextGroup, AllMatch, OneDiffers, Matches, MatchesCase}
 use Rattle.groups.proofs.Hints.{groups-first, leading-first}
@@ -62,87 +62,77 @@ first-none (y ∷ ys) e = cc
 pub group_next : (hints : List ℕ) → GroupAt hints 0 → NextGroup hints 0 0
 group_next hints g = record { passed = record { later = omega arith; evens = λ k a b. absurd (omega arith) }; group = g }
 
-module _ (heads lits : List ℕ) (n : ℕ) (clause marks hints : List ℕ) (fit : Fit heads lits n marks) (known : Marked clause marks) (before : ℕ) where
+pub fit_stored : {heads lits : List ℕ} {n : ℕ} {marks : List ℕ} → Fit heads lits n marks → Stored heads lits n
+fit_stored fit = record { used = fit.ready.used; last = fit.ready.last; store = fit.ready.store }
+
+module _ (before : ℕ) (clause hints : List ℕ) {heads lits : List ℕ} {n : ℕ} {marks : List ℕ} (fit : Fit heads lits n marks) where
   abbrev live : Live
   live = live_of heads lits n
 
-  abbrev m : ℕ
-  m = length lits
-
-  pub rest_stored : Stored heads lits n
-  rest_stored = record { used = fit.ready.used; last = fit.ready.last; store = fit.ready.store }
-
-  pub rest_empty : (tape : List ℕ) (t : ℕ) → t ≤ length tape → clause ≡ [] → JudgesRest live n lits hints (map literal_of clause) marks tape t before marks tape (Err (Refused NoConflict)) t before
-  rest_empty tape t room e = record {
+  pub rest_empty : {tape : List ℕ} {t : ℕ} → t ≤ length tape → clause ≡ [] → JudgesRest live n lits hints (map literal_of clause) marks tape t before marks tape (Err (Refused NoConflict)) t before
+  rest_empty room e = record {
     back = refl;
     stays = refl;
-    laid = laid_none marks tape t room;
+    laid = laid_none _ _ _ room;
     says = λ a s. record { case = rw e (after_empty live a (groups (map hint_of hints))) };
     counted = omega arith;
     bounded = omega arith;
   }
 
-  module _ (first : ℕ) (others : List ℕ) (starts : clause ≡ first ∷ others) where
-    pub rest_known : first < 2 ^ 31
-    rest_known = omega (arith, rw starts at (known.below 0), fit.ready.paired.small)
+  module _ {first : ℕ} {others : List ℕ} (starts : clause ≡ first ∷ others) {q : ℕ} (is_q : q ≡ opposite_code first) {r : Result (Unit {0}) ℕ} {turns : ℕ} (matches : Matches heads lits n hints 0 q r turns) where
+    abbrev p : Literal
+    p = literal_of first
 
-    module _ (q : ℕ) (is_q : q ≡ opposite_code first) (r : Result (Unit {0}) ℕ) (turns : ℕ) (matches : Matches heads lits n hints 0 q r turns) where
-      abbrev p : Literal
-      p = literal_of first
+    q_is : literal_of q ≡ opposite p
+    q_is = ap literal_of is_q ∙ literal-opposite first
 
-      q_is : literal_of q ≡ opposite p
-      q_is = ap literal_of is_q ∙ literal-opposite first
+    k_is : map literal_of clause ≡ p ∷ map literal_of others
+    k_is = ap (map literal_of) starts
 
-      k_is : map literal_of clause ≡ p ∷ map literal_of others
-      k_is = ap (map literal_of) starts
+    module _ (e : r ≡ Ok tt) where
+      all_match : AllMatch heads lits n hints 0 q turns
+      all_match = subst (MatchesCase heads lits n hints 0 q turns) e matches.case
 
-      module _ (e : r ≡ Ok tt) where
-        all_match : AllMatch heads lits n hints 0 q turns
-        all_match = subst (MatchesCase heads lits n hints 0 q turns) e matches.case
+      rest_turns : turns ≤ n + length lits + length hints
+      rest_turns = walked_few heads lits n hints 0 n (length hints) turns (fit_stored fit) (omega arith) all_match.walked
 
-        rest_turns : turns ≤ n + m + length hints
-        rest_turns = walked_few heads lits n hints 0 n (length hints) turns rest_stored (omega arith) all_match.walked
+      rest_groups : (a : Trail) → after_hints live a (map literal_of clause) (groups (map hint_of hints)) ≡ groups_fault live a (literal_of q) (groups (map hint_of hints))
+      rest_groups a =
+          let none_there : mismatch (containing (opposite p) live) (groups (map hint_of hints)) ≡ none = rw (← q_is) (all_match.is fit.ready.used fit.ready.last live (record { store = fit.ready.store; same = refl })) in
+          ap (λ (k : Clause). after_hints live a k (groups (map hint_of hints))) k_is
+          ∙ (after_all live a p (map literal_of others) (groups (map hint_of hints)) none_there
+          ∙ ap (λ (l : Literal). groups_fault live a l (groups (map hint_of hints))) (sym q_is))
 
-        rest_groups : (a : Trail) → after_hints live a (map literal_of clause) (groups (map hint_of hints)) ≡ groups_fault live a (literal_of q) (groups (map hint_of hints))
-        rest_groups a =
-            let none_there : mismatch (containing (opposite p) live) (groups (map hint_of hints)) ≡ none = rw (← q_is) (all_match.is fit.ready.used fit.ready.last live (record { store = fit.ready.store; same = refl })) in
-            ap (λ (k : Clause). after_hints live a k (groups (map hint_of hints))) k_is
-            ∙ (after_all live a p (map literal_of others) (groups (map hint_of hints)) none_there
-            ∙ ap (λ (l : Literal). groups_fault live a l (groups (map hint_of hints))) (sym q_is))
+      pub rest_all : {sum : ℕ} → Counts before turns sum → {tape : List ℕ} {t : ℕ} {marks' tape' : List ℕ} {v : Verdict} {t' turns' : ℕ} → JudgesGroups live lits hints marks tape t q sum marks' tape' v t' turns'
+          → JudgesRest live n lits hints (map literal_of clause) marks tape t before marks' tape' v t' turns'
+      rest_all together j = record {
+        back = j.back;
+        stays = j.stays;
+        laid = j.laid;
+        says = λ a s. says_more (rest_groups a) refl (omega arith) (j.says a s);
+        counted = omega (arith, j.counted, together.first);
+        bounded = omega (arith, j.bounded, rest_turns, together.at_most);
+      }
 
-        pub rest_all : (sum : ℕ) → Counts before turns sum → (tape : List ℕ) (t : ℕ) (marks' tape' : List ℕ) (v : Verdict) (t' turns' : ℕ) → JudgesGroups live lits hints marks tape t q sum marks' tape' v t' turns'
-            → JudgesRest live n lits hints (map literal_of clause) marks tape t before marks' tape' v t' turns'
-        rest_all sum together tape t marks' tape' v t' turns' j = record {
-          back = j.back;
-          stays = j.stays;
-          laid = j.laid;
-          says = λ a s.
-              says_more (groups_fault live a (literal_of q) (groups (map hint_of hints))) (after_hints live a (map literal_of clause) (groups (map hint_of hints))) (length tape) (t + m + length hints)
-              (length tape) (t + m + length hints) v
-              (rest_groups a) refl (omega arith) (j.says a s);
-          counted = omega (arith, j.counted, together.first);
-          bounded = omega (arith, j.bounded, rest_turns, together.at_most);
-        }
+    module _ {id : ℕ} (e : r ≡ Err id) where
+      one_differs : OneDiffers heads lits n hints 0 q id turns
+      one_differs = subst (MatchesCase heads lits n hints 0 q turns) e matches.case
 
-      module _ (id : ℕ) (e : r ≡ Err id) where
-        one_differs : OneDiffers heads lits n hints 0 q id turns
-        one_differs = subst (MatchesCase heads lits n hints 0 q turns) e matches.case
+      rest_few : turns ≤ n + length lits + length hints
+      rest_few = walked_few heads lits n hints 0 one_differs.passed one_differs.at turns (fit_stored fit) one_differs.some_of one_differs.walked
 
-        rest_few : turns ≤ n + m + length hints
-        rest_few = walked_few heads lits n hints 0 one_differs.passed one_differs.at turns rest_stored one_differs.some_of one_differs.walked
-
-        pub rest_differ : (sum : ℕ) → Counts before turns sum → (tape : List ℕ) (t : ℕ) → t ≤ length tape
-            → JudgesRest live n lits hints (map literal_of clause) marks tape t before marks tape (Err (Refused (GroupsDontMatch id))) t sum
-        rest_differ sum together tape t room =
-            let there : mismatch (containing (opposite p) live) (groups (map hint_of hints)) ≡ some id = rw (← q_is) (one_differs.is fit.ready.used fit.ready.last live (record { store = fit.ready.store; same = refl })) in
-            record {
-              back = refl;
-              stays = refl;
-              laid = laid_none marks tape t room;
-              says = λ a s. record { case = ap (λ (k : Clause). after_hints live a k (groups (map hint_of hints))) k_is ∙ after_differ live a p (map literal_of others) (groups (map hint_of hints)) id there };
-              counted = together.first;
-              bounded = omega (arith, rest_few, together.at_most);
-            }
+      pub rest_differ : {sum : ℕ} → Counts before turns sum → {tape : List ℕ} {t : ℕ} → t ≤ length tape
+          → JudgesRest live n lits hints (map literal_of clause) marks tape t before marks tape (Err (Refused (GroupsDontMatch id))) t sum
+      rest_differ together room =
+          let there : mismatch (containing (opposite p) live) (groups (map hint_of hints)) ≡ some id = rw (← q_is) (one_differs.is fit.ready.used fit.ready.last live (record { store = fit.ready.store; same = refl })) in
+          record {
+            back = refl;
+            stays = refl;
+            laid = laid_none _ _ _ room;
+            says = λ a s. record { case = ap (λ (k : Clause). after_hints live a k (groups (map hint_of hints))) k_is ∙ after_differ live a p (map literal_of others) (groups (map hint_of hints)) id there };
+            counted = together.first;
+            bounded = omega (arith, rest_few, together.at_most);
+          }
 
 -- Rule 3
 
@@ -166,13 +156,10 @@ module _ (live : Live) (k : Clause) (hs : List Hint) where
   hints_wrong r marks' many room t t' e (NotForced h) s p = record { case = hints_bad _ (e ∙ s) }
   hints_wrong r marks' many room t t' e HintsTooShort s p = record { case = omega (arith, p.0, p.1) }
 
-module _ (heads lits : List ℕ) (n : ℕ) (clause marks hints : List ℕ) (begun : Begun heads lits n marks (map literal_of clause) (Ok tt)) (from : ℕ) (first : NextGroup hints 0 from)
-    (front behind : List ℕ) (is_front : front ≡ take from hints) (is_behind : behind ≡ drop from hints) where
+module _ {heads lits : List ℕ} {n : ℕ} {marks : List ℕ} {k : Clause} (begun : Begun heads lits n marks k (Ok tt)) {hints : List ℕ} {from : ℕ} (first : NextGroup hints 0 from)
+    {front behind : List ℕ} (is_front : front ≡ take from hints) (is_behind : behind ≡ drop from hints) where
   abbrev now_live : Live
   now_live = live_of heads lits n
-
-  abbrev k : Clause
-  k = map literal_of clause
 
   abbrev ids : List ℕ
   ids = ids_of front
@@ -183,7 +170,7 @@ module _ (heads lits : List ℕ) (n : ℕ) (clause marks hints : List ℕ) (begu
   behind-long : length behind ≡ length hints - from
   behind-long = ap length is_behind ∙ length-drop from hints
 
-  module _ (tape : List ℕ) (t : ℕ) (m₁ tape₁ : List ℕ) (how : Result Effect Fault) (t₁ taken : ℕ) (takes : Takes now_live n ids marks tape t m₁ tape₁ how t₁ taken) (long : length heads < 2 ^ 64) where
+  module _ {tape : List ℕ} {t : ℕ} {m₁ tape₁ : List ℕ} {how : Result Effect Fault} {t₁ taken : ℕ} (takes : Takes now_live n ids marks tape t m₁ tape₁ how t₁ taken) (long : length heads < 2 ^ 64) where
     abbrev r : Taken
     r = take_hints now_live (map opposite k) ids
 
@@ -213,20 +200,19 @@ module _ (heads lits : List ℕ) (n : ℕ) (clause marks hints : List ℕ) (begu
     few_there : t₁ ≤ t + from
     few_there = omega (arith, passed_few (length ids) (length tape) t t₁ how takes.passed, from_long)
 
-    module _ (before passed sum : ℕ) (both : Counts before (length front) passed) (all_three : Counts passed taken sum) where
+    module _ {before passed sum : ℕ} (both : Counts before (length front) passed) (all_three : Counts passed taken sum) where
       -- The hints have ended with no conflict.
-      module _ (x : Effect) (e : how ≡ Ok x) (is : x ≡ Forced) where
+      module _ {x : Effect} (e : how ≡ Ok x) (is : x ≡ Forced) where
         ends : Ends r m₁
         ends = subst (λ (y : Effect). HintsSay r m₁ (Ok y)) is (subst (HintsSay r m₁) e says_there)
 
-        pub hints_ended : (m₂ tape₂ : List ℕ) (v : Verdict) (t₂ turns : ℕ) → JudgesRest now_live n lits behind k m₁ tape₁ t₁ sum m₂ tape₂ v t₂ turns
+        pub hints_ended : {m₂ tape₂ : List ℕ} {v : Verdict} {t₂ turns : ℕ} → JudgesRest now_live n lits behind k m₁ tape₁ t₁ sum m₂ tape₂ v t₂ turns
             → JudgesHints now_live n lits hints k marks tape t before m₂ tape₂ v t₂ turns
-        hints_ended m₂ tape₂ v t₂ turns j = record {
-          laid = rw (j.back, j.stays) (laid_join marks tape t m₁ tape₁ t₁ m₁ tape₂ t₁ takes.laid j.laid);
+        hints_ended j = record {
+          laid = rw (j.back, j.stays) (laid_join _ _ _ _ _ _ _ _ _ takes.laid j.laid);
           few = omega (arith, few_there, first.group.within, j.stays);
           says =
-              says_more (after_hints now_live ends.trail k (groups (map hint_of behind))) (hints_fault now_live k (map hint_of hints))
-              (length tape₁) (t₁ + length lits + length behind) (length tape) (t + length lits + length hints) v
+              says_more
               (hints_end_lem now_live k (map hint_of hints) ends.trail (r_is ∙ ends.is)
               ∙ ap (after_hints now_live ends.trail k) (groups-first hints from first ∙ ap (λ (h : List ℕ). groups (map hint_of h)) (sym is_behind)))
               takes.laid.long (omega (arith, few_there, behind-long, first.group.within)) (j.says ends.trail ends.shows);
@@ -238,20 +224,18 @@ module _ (heads lits : List ℕ) (n : ℕ) (clause marks hints : List ℕ) (begu
       settled v s = record {
         laid = takes.laid;
         few = omega (arith, few_there, first.group.within);
-        says =
-            says_more (hints_fault now_live k (map hint_of hints)) (hints_fault now_live k (map hint_of hints)) (length tape) (t + length ids) (length tape) (t + length lits + length hints) v
-            refl refl (omega (arith, from_long, first.group.within)) s;
+        says = says_more refl refl (omega (arith, from_long, first.group.within)) s;
         counted = omega (arith, both.first, all_three.first);
         bounded = omega (arith, both_costs, taken_few, both.at_most, all_three.at_most);
       }
 
       -- They came to a conflict.
-      pub hints-fine : (x : Effect) → how ≡ Ok x → x ≡ Conflict → JudgesHints now_live n lits hints k marks tape t before m₁ tape₁ (Ok tt) t₁ sum
-      hints-fine x e is = settled (Ok tt) (record { case = hints_conflict now_live k (map hint_of hints) (r_is ∙ subst (λ (y : Effect). HintsSay r m₁ (Ok y)) is (subst (HintsSay r m₁) e says_there)) })
+      pub hints-fine : {x : Effect} → how ≡ Ok x → x ≡ Conflict → JudgesHints now_live n lits hints k marks tape t before m₁ tape₁ (Ok tt) t₁ sum
+      hints-fine e is = settled (Ok tt) (record { case = hints_conflict now_live k (map hint_of hints) (r_is ∙ subst (λ (y : Effect). HintsSay r m₁ (Ok y)) is (subst (HintsSay r m₁) e says_there)) })
 
       -- One of them is at fault, or there was no room.
-      pub hints_at_fault : (f : Fault) → how ≡ Err f → (x : Failure) → x ≡ failure_of f → JudgesHints now_live n lits hints k marks tape t before m₁ tape₁ (Err x) t₁ sum
-      hints_at_fault f e x is =
+      pub hints_at_fault : {f : Fault} → how ≡ Err f → {x : Failure} → x ≡ failure_of f → JudgesHints now_live n lits hints k marks tape t before m₁ tape₁ (Err x) t₁ sum
+      hints_at_fault {f} e is =
           rw is
           (settled (Err (failure_of f))
           (hints_wrong now_live k (map hint_of hints) r m₁ (length ids) (length tape) t t₁ r_is f (subst (HintsSay r m₁) e says_there) (subst (HintsPassed (length ids) (length tape) t t₁) e takes.passed)))
@@ -272,7 +256,7 @@ module _ (live : Live) (last id : ℕ) (k : Clause) (hs : List Hint) where
     unfolding addition_fault
     addition_hints e = rw (lt-ltb last id fresh, addition_fault, e)
 
-module _ (heads lits : List ℕ) (n : ℕ) (clause marks : List ℕ) (add : Addable heads lits n clause marks) (tape : List ℕ) (t : ℕ) (m₁ tape₁ : List ℕ) (f : Outcome) (t₁ passed : ℕ)
+module _ {heads lits : List ℕ} {n : ℕ} {clause marks : List ℕ} (add : Addable heads lits n clause marks) {tape : List ℕ} {t : ℕ} {m₁ tape₁ : List ℕ} {f : Outcome} {t₁ passed : ℕ}
     (fell : FalsifiesClause clause marks tape t m₁ tape₁ f t₁ passed) where
   abbrev own : Clause
   own = map literal_of clause
@@ -285,7 +269,7 @@ module _ (heads lits : List ℕ) (n : ℕ) (clause marks : List ℕ) (add : Adda
   clause_passed : passed ≤ length clause
   clause_passed = passed_most f fell.so_many
 
-  module _ (hints m₂ tape₂ : List ℕ) (v : Verdict) (t₂ turns : ℕ) (j : JudgesBehind (live_of heads lits n) n lits hints own f m₁ tape₁ t₁ (passed + 1) m₂ tape₂ v t₂ turns) where
+  module _ {hints m₂ tape₂ : List ℕ} {v : Verdict} {t₂ turns : ℕ} (j : JudgesBehind (live_of heads lits n) n lits hints own f m₁ tape₁ t₁ (passed + 1) m₂ tape₂ v t₂ turns) where
     both_laid : Laid marks tape t m₂ tape₂ t₂
     both_laid = laid_join marks tape t m₁ tape₁ t₁ m₂ tape₂ t₂ fell.laid j.laid
 
@@ -296,15 +280,13 @@ module _ (heads lits : List ℕ) (n : ℕ) (clause marks : List ℕ) (add : Adda
         → BehindCase (live_of heads lits n) hints own (length tape₁) (t₁ + length lits + length hints) v g
         → Says (addition_fault (live_of heads lits n) last id own (map hint_of hints)) (length tape) (t + (length clause + length hints + length lits)) v
     clause-says last id fresh (Ok done) o p s =
-        says_more (hints_fault (live_of heads lits n) own (map hint_of hints)) (addition_fault (live_of heads lits n) last id own (map hint_of hints))
-        (length tape₁) (t₁ + length lits + length hints) (length tape) (t + (length clause + length hints + length lits)) v
-        (addition_hints (live_of heads lits n) last id own (map hint_of hints) fresh o.no_opposites) fell.laid.long (omega (arith, fell.few)) s
+        says_more (addition_hints (live_of heads lits n) last id own (map hint_of hints) fresh o.no_opposites) fell.laid.long (omega (arith, fell.few)) s
     clause-says last id fresh (Err SomeTrue) o p s = rw s (record { case = addition_opposites (live_of heads lits n) last id own (map hint_of hints) fresh o })
     clause-says last id fresh (Err NoRoom) o p s = rw s (record { case = omega (arith, p.0, p.1, fell.few) })
 
-    module _ (m₃ : List ℕ) (t₃ back : ℕ) (undone : Undone m₂ tape₂ t t₂ m₃) (u : t₃ ≡ min t t₂) (b : back ≡ t₂ - t) where
-      pub clause_judged : (all : ℕ) → Counts turns back all → JudgesClause (live_of heads lits n) n lits clause hints marks tape t m₃ tape₂ v t₃ all
-      clause_judged all together = record {
+    module _ {m₃ : List ℕ} {t₃ back : ℕ} (undone : Undone m₂ tape₂ t t₂ m₃) (u : t₃ ≡ min t t₂) (b : back ≡ t₂ - t) where
+      pub clause_judged : {all : ℕ} → Counts turns back all → JudgesClause (live_of heads lits n) n lits clause hints marks tape t m₃ tape₂ v t₃ all
+      clause_judged together = record {
         back = undone.back marks both_laid.differ;
         stays = omega (arith, both_laid.forward);
         long = both_laid.long;
@@ -313,12 +295,6 @@ module _ (heads lits : List ℕ) (n : ℕ) (clause marks : List ℕ) (add : Adda
       }
 
 -- The first half of rule 1.
-module _ (heads lits : List ℕ) (n : ℕ) (clause hints : List ℕ) (last id : ℕ) (marks tape : List ℕ) (t : ℕ) where
-  pub addition_stale : id ≤ last → Judges (live_of heads lits n) n lits clause hints last id marks tape t marks tape (Err (Refused (IdNotFresh id))) t 0
-  addition_stale h = record {
-    back = refl;
-    stays = refl;
-    long = refl;
-    says = record { case = addition_old (live_of heads lits n) last id (map literal_of clause) (map hint_of hints) h };
-    bounded = omega arith;
-  }
+pub addition_stale : {live : Live} {n : ℕ} {lits clause hints : List ℕ} {last id : ℕ} {marks tape : List ℕ} {t : ℕ} → id ≤ last
+    → Judges live n lits clause hints last id marks tape t marks tape (Err (Refused (IdNotFresh id))) t 0
+addition_stale h = record { back = refl; stays = refl; long = refl; says = record { case = addition_old _ _ _ _ _ h }; bounded = omega arith }

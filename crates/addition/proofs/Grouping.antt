@@ -67,7 +67,7 @@ group_alone live a q d hs c found =
     (λ f e. group_wrong live a q d hs [] c found f e ∙ sym e)
 
 -- The clause at a place of the store, and its literals.
-module _ (heads lits : List ℕ) (n : ℕ) (marks : List ℕ) (fit : Fit heads lits n marks) (d place : ℕ) (at : PlaceOf heads n d place) where
+module _ {heads lits : List ℕ} {n : ℕ} {marks : List ℕ} (fit : Fit heads lits n marks) {d place : ℕ} (at : PlaceOf heads n d place) where
   abbrev live : Live
   live = live_of heads lits n
 
@@ -100,9 +100,9 @@ module _ (heads lits : List ℕ) (n : ℕ) (marks : List ℕ) (fit : Fit heads l
       ∙ ap some (clause_is heads lits place (start_at heads place) (start_at heads (place + 1)) refl refl)
 
 -- One group, over the literals xs of its clause.
-module _ (live : Live) (n : ℕ) (lits xs marks tape : List ℕ) (t q d : ℕ) (ids : List ℕ) (found : find d live ≡ some (map literal_of xs)) (long : length xs ≤ length lits)
-    (m₁ tape₁ : List ℕ) (f : Outcome) (t₁ passed : ℕ) (fell : FalsifiesOthers xs (without (literal_of q) (map literal_of xs)) marks tape t m₁ tape₁ f t₁ passed)
-    (m₂ tape₂ : List ℕ) (v : Verdict) (t₂ taken : ℕ) (tried : TriesHints live n d ids f m₁ tape₁ t₁ m₂ tape₂ v t₂ taken) where
+module _ (lits : List ℕ) (q : ℕ) {live : Live} {n : ℕ} {xs marks tape : List ℕ} {t d : ℕ} {ids : List ℕ} (found : find d live ≡ some (map literal_of xs)) (long : length xs ≤ length lits)
+    {m₁ tape₁ : List ℕ} {f : Outcome} {t₁ passed : ℕ} (fell : FalsifiesOthers xs (without (literal_of q) (map literal_of xs)) marks tape t m₁ tape₁ f t₁ passed)
+    {m₂ tape₂ : List ℕ} {v : Verdict} {t₂ taken : ℕ} (tried : TriesHints live n d ids f m₁ tape₁ t₁ m₂ tape₂ v t₂ taken) where
   abbrev m : ℕ
   m = length lits
 
@@ -118,8 +118,7 @@ module _ (live : Live) (n : ℕ) (lits xs marks tape : List ℕ) (t q d : ℕ) (
   there_says : (a : Trail) (g : Outcome) → OthersCase a others m₁ g → PassedCase (length xs) (length tape) t₁ passed g → TriesCase live n d ids m₁ (length tape₁) (t₁ + length ids) v taken g
       → Says (group_fault live a d others ids) (length tape) (t + m + length ids) v
   there_says a (Ok done) o p k =
-      says_more (group_end d (take_hints live (map opposite others ++ a) ids)) (group_fault live a d others ids) (length tape₁) (t₁ + length ids) (length tape) (t + m + length ids) v
-      (group_on live a d others ids o.none_true) fell.laid.long (omega (arith, fell.few)) (k (map opposite others ++ a) o.shows).says
+      says_more (group_on live a d others ids o.none_true) fell.laid.long (omega (arith, fell.few)) (k (map opposite others ++ a) o.shows).says
   there_says a (Err SomeTrue) o p k = rw k.0 (record { case = group_done live a d others ids o })
   there_says a (Err NoRoom) o p k = rw k.0 (record { case = omega (arith, p.0, p.1, fell.few) })
 
@@ -135,8 +134,8 @@ module _ (live : Live) (n : ℕ) (lits xs marks tape : List ℕ) (t q d : ℕ) (
   there_taken short few a (Err SomeTrue) o k = omega (arith, k.1, cost-most live m short ids a)
   there_taken short few a (Err NoRoom) o k = omega (arith, k.1, cost-most live m short ids a)
 
-  module _ (short : (id : ℕ) (c : Clause) → find id live ≡ some c → length c ≤ m) (few : n ≤ 2 ^ 64) (a : Trail) (s : Shows marks a) (room : t ≤ length tape) (before : ℕ) (small : before < 65 + length ids)
-      (m₃ : List ℕ) (t₃ back : ℕ) (undone : Undone m₂ tape₂ t t₂ m₃) (u : t₃ ≡ min t t₂) (b : back ≡ t₂ - t) (all : ℕ) (together : Counts (before + passed + 1 + back) taken all) where
+  module _ (short : (id : ℕ) (c : Clause) → find id live ≡ some c → length c ≤ m) (few : n ≤ 2 ^ 64) {a : Trail} (s : Shows marks a) (room : t ≤ length tape) {before : ℕ} (small : before < 65 + length ids)
+      {m₃ : List ℕ} {t₃ back : ℕ} (undone : Undone m₂ tape₂ t t₂ m₃) (u : t₃ ≡ min t t₂) (b : back ≡ t₂ - t) {all : ℕ} (together : Counts (before + passed + 1 + back) taken all) where
     there_bounded : all ≤ costs m (length ids + 1)
     there_bounded =
         omega (arith, there_taken short few a f (fell.outcome a s) tried.case, there_passed f fell.so_many, costs_next m (length ids), fell.few, tried.few, together.at_most)
@@ -147,35 +146,33 @@ module _ (live : Live) (n : ℕ) (lits xs marks tape : List ℕ) (t q d : ℕ) (
       stays = omega (arith, both_laid.forward);
       laid = laid_back marks tape t marks tape t m₂ tape₂ t₂ (laid_none marks tape t room) both_laid;
       says = λ e h.
-          says_more (group_fault live e d others ids) (groups_fault live e (literal_of q) ((d, ids) ∷ [])) (length tape) (t + m + length ids) (length tape) (t + m + length ids) v
-          (group_alone live e (literal_of q) d ids (map literal_of xs) found) refl (omega arith) (there_says e f (fell.outcome e h) fell.so_many tried.case);
+          says_more (group_alone live e (literal_of q) d ids (map literal_of xs) found) refl (omega arith) (there_says e f (fell.outcome e h) fell.so_many tried.case);
       counted = omega (arith, together.first);
       bounded = there_bounded;
     }
 
 -- The same for the clause at a place of the store.
-module _ (heads lits : List ℕ) (n : ℕ) (marks : List ℕ) (fit : Fit heads lits n marks) (d place : ℕ) (at : PlaceOf heads n d place) (tape : List ℕ) (t q : ℕ) (hints xs : List ℕ)
+module _ (hints : List ℕ) (q : ℕ) {heads lits : List ℕ} {n : ℕ} {marks : List ℕ} (fit : Fit heads lits n marks) {d place : ℕ} (at : PlaceOf heads n d place) {tape : List ℕ} {t : ℕ} {xs : List ℕ}
     (is : xs ≡ slice (start_at heads place) (start_at heads (place + 1)) lits)
-    (m₁ tape₁ : List ℕ) (f : Outcome) (t₁ passed : ℕ) (fell : FalsifiesOthers xs (without (literal_of q) (map literal_of xs)) marks tape t m₁ tape₁ f t₁ passed)
-    (m₂ tape₂ : List ℕ) (v : Verdict) (t₂ taken : ℕ) (tried : TriesHints (live_of heads lits n) n d (ids_of hints) f m₁ tape₁ t₁ m₂ tape₂ v t₂ taken) where
+    {m₁ tape₁ : List ℕ} {f : Outcome} {t₁ passed : ℕ} (fell : FalsifiesOthers xs (without (literal_of q) (map literal_of xs)) marks tape t m₁ tape₁ f t₁ passed)
+    {m₂ tape₂ : List ℕ} {v : Verdict} {t₂ taken : ℕ} (tried : TriesHints (live_of heads lits n) n d (ids_of hints) f m₁ tape₁ t₁ m₂ tape₂ v t₂ taken) where
   found_there : find d (live_of heads lits n) ≡ some (map literal_of xs)
-  found_there = rw is (place_found heads lits n marks fit d place at)
+  found_there = rw is (place_found fit at)
 
   short_there : length xs ≤ length lits
-  short_there = rw is (place_short heads lits n marks fit d place at)
+  short_there = rw is (place_short fit at)
 
   pub place_undoable : Undoable m₂ tape₂ t t₂
-  place_undoable = there_undoable (live_of heads lits n) n lits xs marks tape t q d (ids_of hints) found_there short_there m₁ tape₁ f t₁ passed fell m₂ tape₂ v t₂ taken tried
+  place_undoable = there_undoable lits q found_there short_there fell tried
 
-  module _ (room : t ≤ length tape) (before : ℕ) (small : before < 65 + length hints) (m₃ : List ℕ) (t₃ back : ℕ) (undone : Undone m₂ tape₂ t t₂ m₃) (u : t₃ ≡ min t t₂) (b : back ≡ t₂ - t) where
-    pub place_judged : length heads < 2 ^ 64 → (all : ℕ) → Counts (before + passed + 1 + back) taken all
+  module _ (room : t ≤ length tape) {before : ℕ} (small : before < 65 + length hints) {m₃ : List ℕ} {t₃ back : ℕ} (undone : Undone m₂ tape₂ t t₂ m₃) (u : t₃ ≡ min t t₂) (b : back ≡ t₂ - t) where
+    pub place_judged : length heads < 2 ^ 64 → {all : ℕ} → Counts (before + passed + 1 + back) taken all
         → JudgesGroup (live_of heads lits n) lits marks tape t q d (ids_of hints) before m₃ tape₂ v t₃ all
-    place_judged long all together =
-        there_judged (live_of heads lits n) n lits xs marks tape t q d (ids_of hints) found_there short_there m₁ tape₁ f t₁ passed fell m₂ tape₂ v t₂ taken tried
-        (ready_short heads lits n marks fit.ready) (omega (arith, fit.ready.store.room)) fit.trail fit.shows room before (omega (arith, ids-long hints)) m₃ t₃ back undone u b all together
+    place_judged long together =
+        there_judged lits q found_there short_there fell tried (ready_short heads lits n marks fit.ready) (omega (arith, fit.ready.store.room)) fit.shows room (omega (arith, ids-long hints)) undone u b together
 
 -- One group, by what came of looking its clause up.
-module _ (heads lits : List ℕ) (n : ℕ) (marks group : List ℕ) (fit : Fit heads lits n marks) (d : ℕ) (found : Maybe ℕ) (in_store : Finds heads n d found) (turns : ℕ) (few : AtMostHalvings n turns)
+module _ (group : List ℕ) (d : ℕ) (found : Maybe ℕ) {heads lits : List ℕ} {n : ℕ} {marks : List ℕ} (fit : Fit heads lits n marks) (in_store : Finds heads n d found) {turns : ℕ} (few : AtMostHalvings n turns)
     (long : length heads < 2 ^ 64) where
   abbrev now_live : Live
   now_live = live_of heads lits n
@@ -186,25 +183,26 @@ module _ (heads lits : List ℕ) (n : ℕ) (marks group : List ℕ) (fit : Fit h
   pub one_bound : turns + length group < 65 + length (take (length group - 1) (drop 1 group))
   one_bound = omega (arith, short_turns, ap length (part_rest group 1), length-drop 1 group)
 
-  pub one_judged : (tape : List ℕ) (t q first : ℕ) → d ≡ first → (marks' tape' : List ℕ) (v : Verdict) (t' turns' : ℕ)
-      → JudgesGroup now_live lits marks tape t q d (ids_of (take (length group - 1) (drop 1 group))) (turns + length group) marks' tape' v t' turns'
-      → JudgesGroup now_live lits marks tape t q first (ids_of (drop 1 group)) (length group) marks' tape' v t' turns'
-  one_judged tape t q first e marks' tape' v t' turns' j =
-      let k = rw (e, part_rest group 1) at j in
-      record { back = k.back; stays = k.stays; laid = k.laid; says = k.says; counted = omega (arith, k.counted); bounded = k.bounded }
+  module _ {tape : List ℕ} {t q first : ℕ} (same : d ≡ first) where
+    pub one_judged : {marks' tape' : List ℕ} {v : Verdict} {t' turns' : ℕ}
+        → JudgesGroup now_live lits marks tape t q d (ids_of (take (length group - 1) (drop 1 group))) (turns + length group) marks' tape' v t' turns'
+        → JudgesGroup now_live lits marks tape t q first (ids_of (drop 1 group)) (length group) marks' tape' v t' turns'
+    one_judged j =
+        let k = rw (same, part_rest group 1) at j in
+        record { back = k.back; stays = k.stays; laid = k.laid; says = k.says; counted = omega (arith, k.counted); bounded = k.bounded }
 
-  pub one_lacks : (tape : List ℕ) (t q first : ℕ) → d ≡ first → t ≤ length tape → found ≡ Nowhere
-      → JudgesGroup now_live lits marks tape t q first (ids_of (drop 1 group)) (length group) marks tape (Err (Refused (HintNotLive d))) t (turns + length group)
-  one_lacks tape t q first same room e =
-      let lacks : find d now_live ≡ none = holds_lacks heads lits n fit.ready.used fit.ready.last now_live (record { store = fit.ready.store; same = refl }) d (subst (Finds heads n d) e in_store) in
-      record {
-        back = refl;
-        stays = refl;
-        laid = laid_none marks tape t room;
-        says = λ a s. rw (← same) (record { case = group_lacks now_live a (literal_of q) d (ids_of (drop 1 group)) [] lacks });
-        counted = omega arith;
-        bounded = omega (arith, short_turns, ids-long (drop 1 group), length-drop 1 group, costs_least (length lits) (length (ids_of (drop 1 group)) + 1));
-      }
+    pub one_lacks : t ≤ length tape → found ≡ Nowhere
+        → JudgesGroup now_live lits marks tape t q first (ids_of (drop 1 group)) (length group) marks tape (Err (Refused (HintNotLive d))) t (turns + length group)
+    one_lacks room e =
+        let lacks : find d now_live ≡ none = holds_lacks heads lits n fit.ready.used fit.ready.last now_live (record { store = fit.ready.store; same = refl }) d (subst (Finds heads n d) e in_store) in
+        record {
+          back = refl;
+          stays = refl;
+          laid = laid_none marks tape t room;
+          says = λ a s. rw (← same) (record { case = group_lacks now_live a (literal_of q) d (ids_of (drop 1 group)) [] lacks });
+          counted = omega arith;
+          bounded = omega (arith, short_turns, ids-long (drop 1 group), length-drop 1 group, costs_least (length lits) (length (ids_of (drop 1 group)) + 1));
+        }
 
 -- The groups one after the other.
 
@@ -237,7 +235,7 @@ abbrev pub goes_on : ℕ → ℕ → Bool
 goes_on code next = nat_eq (next % 2) 0
 
 -- The first group of these codes, and those behind it.
-module _ (codes group rest : List ℕ) (begins : GroupAt codes 0) (is : codes ≡ group ++ rest) (some : 0 < length group) (cut : IsChunkByPrefix goes_on codes (length group)) where
+module _ (group rest : List ℕ) {codes : List ℕ} (begins : GroupAt codes 0) (is : codes ≡ group ++ rest) (some : 0 < length group) (cut : IsChunkByPrefix goes_on codes (length group)) where
   codes-long : length codes ≡ length group + length rest
   codes-long = ap length is ∙ length-append group rest
 
@@ -283,42 +281,40 @@ pub record Going (live : Live) (lits hints marks₀ tape₀ : List ℕ) (t₀ q 
   pub all : Reaches (before + (length hints - length rest)) turns
   pub bounded : turns ≤ before + costs (length lits) (length hints - length rest)
 
-pub going_start : (live : Live) (lits hints marks tape : List ℕ) (t q before : ℕ) → t ≤ length tape → GroupAt hints 0 → Going live lits hints marks tape t q before marks tape t hints before
-going_start live lits hints marks tape t q before room g = record {
-  back = refl;
-  stays = refl;
-  laid = laid_none marks tape t room;
-  begins = g;
-  shorter = omega arith;
-  same = λ a s. refl;
-  counted = omega arith;
-  all = record { case = inl (omega arith) };
-  bounded = omega arith;
-}
+module _ {live : Live} {lits hints marks tape : List ℕ} {t q before : ℕ} where
+  pub going_start : t ≤ length tape → GroupAt hints 0 → Going live lits hints marks tape t q before marks tape t hints before
+  going_start room g = record {
+    back = refl;
+    stays = refl;
+    laid = laid_none marks tape t room;
+    begins = g;
+    shorter = omega arith;
+    same = λ a s. refl;
+    counted = omega arith;
+    all = record { case = inl (omega arith) };
+    bounded = omega arith;
+  }
 
-module _ (heads lits : List ℕ) (n : ℕ) (hints marks₀ tape₀ : List ℕ) (t₀ q before : ℕ) (marks tape : List ℕ) (t : ℕ) (codes : List ℕ) (turns : ℕ)
-    (k : Going (live_of heads lits n) lits hints marks₀ tape₀ t₀ q before marks tape t codes turns) where
-  abbrev all_live : Live
-  all_live = live_of heads lits n
-
-  pub going_fit : Fit heads lits n marks₀ → Fit heads lits n marks
+module _ {live : Live} {lits hints marks₀ tape₀ : List ℕ} {t₀ q before : ℕ} {marks tape : List ℕ} {t : ℕ} {codes : List ℕ} {turns : ℕ}
+    (k : Going live lits hints marks₀ tape₀ t₀ q before marks tape t codes turns) where
+  pub going_fit : {heads : List ℕ} {n : ℕ} → Fit heads lits n marks₀ → Fit heads lits n marks
   going_fit fit = rw k.back fit
 
-  pub going_end : length codes ≡ 0 → JudgesGroups all_live lits hints marks₀ tape₀ t₀ q before marks tape (Ok tt) t turns
+  pub going_end : length codes ≡ 0 → JudgesGroups live lits hints marks₀ tape₀ t₀ q before marks tape (Ok tt) t turns
   going_end z =
       let whole : length hints - length codes ≡ length hints = omega arith in
       record {
         back = k.back;
         stays = k.stays;
         laid = k.laid;
-        says = λ a s. record { case = k.same a s ∙ (ap (groups_fault all_live a (literal_of q)) (groups_end codes 0 (omega arith)) ∙ groups_none all_live a (literal_of q)) };
+        says = λ a s. record { case = k.same a s ∙ (ap (groups_fault live a (literal_of q)) (groups_end codes 0 (omega arith)) ∙ groups_none live a (literal_of q)) };
         counted = k.counted;
         all = λ e. rw (← whole) k.all;
         bounded = rw (← whole) k.bounded;
       }
 
-  module _ (group rest : List ℕ) (is : codes ≡ group ++ rest) (some : 0 < length group) (cut : IsChunkByPrefix goes_on codes (length group)) (marks' tape' : List ℕ) (v : Verdict) (t' turns' : ℕ)
-      (j : JudgesGroup all_live lits marks tape t q (get_or group 0 0 / 2) (ids_of (drop 1 group)) (length group) marks' tape' v t' turns') (sum : ℕ) (together : Counts turns turns' sum) where
+  module _ (group rest : List ℕ) (is : codes ≡ group ++ rest) (some : 0 < length group) (cut : IsChunkByPrefix goes_on codes (length group)) {marks' tape' : List ℕ} {v : Verdict} {t' turns' : ℕ}
+      (j : JudgesGroup live lits marks tape t q (get_or group 0 0 / 2) (ids_of (drop 1 group)) (length group) marks' tape' v t' turns') {sum : ℕ} (together : Counts turns turns' sum) where
     abbrev d : ℕ
     d = get_or group 0 0 / 2
 
@@ -332,7 +328,7 @@ module _ (heads lits : List ℕ) (n : ℕ) (hints marks₀ tape₀ : List ℕ) (
     left = ap length is ∙ length-append group rest
 
     now_is : groups (map hint_of codes) ≡ (d, ids) ∷ groups (map hint_of rest)
-    now_is = groups_now codes group rest k.begins is some cut
+    now_is = groups_now group rest k.begins is some cut
 
     laid_now : Laid marks₀ tape₀ t₀ marks₀ tape' t₀
     laid_now = laid_join marks₀ tape₀ t₀ marks₀ tape t₀ marks₀ tape' t₀ k.laid (subst (λ (m : List ℕ). Laid m tape t₀ m tape' t₀) k.back (subst (λ (u : ℕ). Laid marks tape u marks tape' u) k.stays j.laid))
@@ -349,18 +345,18 @@ module _ (heads lits : List ℕ) (n : ℕ) (hints marks₀ tape₀ : List ℕ) (
           together.at_most,
         )
 
-    pub going_on : is_err v ≡ false → Going all_live lits hints marks₀ tape₀ t₀ q before marks' tape' t' rest sum
+    pub going_on : is_err v ≡ false → Going live lits hints marks₀ tape₀ t₀ q before marks' tape' t' rest sum
     going_on f = record {
       back = j.back ∙ k.back;
       stays = j.stays ∙ k.stays;
       laid = laid_now;
-      begins = rest_begins codes group rest k.begins is some cut;
+      begins = rest_begins group rest k.begins is some cut;
       shorter = omega (arith, left, k.shorter);
       same = λ a s.
           k.same a s
-          ∙ (ap (groups_fault all_live a (literal_of q)) now_is
-          ∙ first_fine all_live a (literal_of q) d ids (groups (map hint_of rest))
-          (accepted_none (groups_fault all_live a (literal_of q) ((d, ids) ∷ [])) (length tape) (t + length lits + length ids) v f (j.says a (rw k.back s))));
+          ∙ (ap (groups_fault live a (literal_of q)) now_is
+          ∙ first_fine live a (literal_of q) d ids (groups (map hint_of rest))
+          (accepted_none (groups_fault live a (literal_of q) ((d, ids) ∷ [])) (length tape) (t + length lits + length ids) v f (j.says a (rw k.back s))));
       counted = omega (arith, k.counted, together.first);
       all =
           reaches_less (before + (length hints - length rest)) (before + (length hints - length codes) + length group) sum sum (omega (arith, left, k.shorter)) (omega arith)
@@ -368,16 +364,14 @@ module _ (heads lits : List ℕ) (n : ℕ) (hints marks₀ tape₀ : List ℕ) (
       bounded = now_bounded;
     }
 
-    pub going_stop : is_err v ≡ true → JudgesGroups all_live lits hints marks₀ tape₀ t₀ q before marks' tape' v t' sum
+    pub going_stop : is_err v ≡ true → JudgesGroups live lits hints marks₀ tape₀ t₀ q before marks' tape' v t' sum
     going_stop y = record {
       back = j.back ∙ k.back;
       stays = j.stays ∙ k.stays;
       laid = laid_now;
       says = λ a s.
-          says_more (groups_fault all_live a (literal_of q) ((d, ids) ∷ groups (map hint_of rest))) (groups_fault all_live a (literal_of q) (groups (map hint_of hints)))
-          (length tape) (t + length lits + length ids) (length tape₀) (t₀ + length lits + length hints) v
-          (k.same a s ∙ ap (groups_fault all_live a (literal_of q)) now_is) k.laid.long (omega (arith, many, left, k.shorter, k.stays))
-          (first_says all_live a (literal_of q) d ids (groups (map hint_of rest)) (length tape) (t + length lits + length ids) v y (j.says a (rw k.back s)));
+          says_more (k.same a s ∙ ap (groups_fault live a (literal_of q)) now_is) k.laid.long (omega (arith, many, left, k.shorter, k.stays))
+          (first_says live a (literal_of q) d ids (groups (map hint_of rest)) (length tape) (t + length lits + length ids) v y (j.says a (rw k.back s)));
       counted = omega (arith, k.counted, together.first);
       all = λ accepted. cc;
       bounded = omega (arith, now_bounded, costs_more (length lits) (length hints - length rest) (length hints) (omega arith));

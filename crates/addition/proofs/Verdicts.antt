@@ -11,10 +11,13 @@ use Rattle.addition.specs.Verdicts.{Verdict, Says}
 use Rattle.addition.specs.declared.Failure.TheVariants.{Refused, TooShort}
 
 -- What a verdict says holds too where more room is needed, and of an equal fault.
-pub says_more : (fault fault' : Option Wrong) (room needed room' needed' : ℕ) (v : Verdict) → fault' ≡ fault → room ≡ room' → needed ≤ needed' → Says fault room needed v → Says fault' room' needed' v
-says_more fault fault' room needed room' needed' (Ok done) e r m s = record { case = e ∙ s.case }
-says_more fault fault' room needed room' needed' (Err (Refused g)) e r m s = record { case = e ∙ s.case }
-says_more fault fault' room needed room' needed' (Err TooShort) e r m s = record { case = omega (arith, s.case) }
+says_by : (fault fault' : Option Wrong) (room needed room' needed' : ℕ) (v : Verdict) → fault' ≡ fault → room ≡ room' → needed ≤ needed' → Says fault room needed v → Says fault' room' needed' v
+says_by fault fault' room needed room' needed' (Ok done) e r m s = record { case = e ∙ s.case }
+says_by fault fault' room needed room' needed' (Err (Refused g)) e r m s = record { case = e ∙ s.case }
+says_by fault fault' room needed room' needed' (Err TooShort) e r m s = record { case = omega (arith, s.case) }
+
+pub says_more : {fault fault' : Option Wrong} {room needed room' needed' : ℕ} {v : Verdict} → fault' ≡ fault → room ≡ room' → needed ≤ needed' → Says fault room needed v → Says fault' room' needed' v
+says_more = says_by _ _ _ _ _ _ _
 
 -- How far the tape went.
 pub passed_few : (many room t t' : ℕ) (taken : Result Effect Fault) → HintsPassed many room t t' taken → t' ≤ t + many

@@ -1,21 +1,21 @@
 -- `after_hints` meets its contract: K is empty, or its groups are not those that they must be, or they are judged. Assumes
 -- nothing.
 use Rattle.std.proofs.Common.{sym}
-use Rattle.addition.proofs.Adding.{first_some, first-none, group_next, rest_stored, rest_empty, rest_all, rest_differ}
+use Rattle.addition.proofs.Adding.{first_some, first-none, group_next, fit_stored, rest_empty, rest_all, rest_differ}
 use Rattle.addition.proofs.after_hints.Goals as goal
 
 pub match_groups-matched-requires : goal.match_groups-matched-requires
-match_groups-matched-requires c = record { stored = rest_stored _ _ _ _ _ c.args.hints.now c.requires.fit c.requires.known c.args.before; next_group = group_next _ c.requires.group_at }
+match_groups-matched-requires c = record { stored = fit_stored c.requires.fit; next_group = group_next _ c.requires.group_at }
 
 pub returns-in_default : goal.returns-in_default
-returns-in_default c = rest_empty _ _ _ _ _ _ c.requires.fit c.requires.known _ _ _ c.args.a.now.within (first-none _ (sym c.in_default.ensures.value))
+returns-in_default c = rest_empty _ _ _ c.requires.fit c.args.a.now.within (first-none _ (sym c.in_default.ensures.value))
 
 pub returns-in-Ok : goal.returns-in-Ok
 returns-in-Ok c =
-    rest_all _ _ _ _ _ _ c.requires.fit c.requires.known _ _ _ (first_some _ _ (sym c.in-Some.ensures.value)) _ c.opposite-q.ensures _ _ c.match_groups-matched.ensures c.in-Ok.is
-    _ c.plus-turns.ensures _ _ _ _ _ _ _ c.judge_groups.ensures
+    rest_all _ _ _ c.requires.fit (first_some _ _ (sym c.in-Some.ensures.value)) c.opposite-q.ensures c.match_groups-matched.ensures c.in-Ok.is c.plus-turns.ensures
+    c.judge_groups.ensures
 
 pub returns-in-Err : goal.returns-in-Err
 returns-in-Err c =
-    rest_differ _ _ _ _ _ _ c.requires.fit c.requires.known _ _ _ (first_some _ _ (sym c.in-Some.ensures.value)) _ c.opposite-q.ensures _ _ c.match_groups-matched.ensures _ c.in-Err.is
-    _ c.plus-turns.ensures _ _ c.args.a.now.within
+    rest_differ _ _ _ c.requires.fit (first_some _ _ (sym c.in-Some.ensures.value)) c.opposite-q.ensures c.match_groups-matched.ensures c.in-Err.is c.plus-turns.ensures
+    c.args.a.now.within

@@ -4,4 +4,4 @@ use Rattle.addition.proofs.Adding.{addition_stale}
 use Rattle.addition.proofs.judge_addition.Goals as goal
 
 pub returns-then-id-last : goal.returns-then-id-last
-returns-then-id-last c = addition_stale _ _ _ _ _ _ _ _ _ _ (omega arith)
+returns-then-id-last c = addition_stale (omega arith)

@@ -3,11 +3,10 @@ use Rattle.addition.proofs.Adding.{clause_undoable, clause_judged}
 use Rattle.addition.proofs.judge_clause.Goals as goal
 
 pub undo-back-requires : goal.undo-back-requires
-undo-back-requires c =
-    clause_undoable _ _ _ _ _ c.requires _ _ _ _ _ _ _ c.falsify_clause-fell.ensures _ _ _ _ _ _ c.judge_behind-judged.ensures
+undo-back-requires c = clause_undoable c.requires c.falsify_clause-fell.ensures c.judge_behind-judged.ensures
 
 pub returns : goal.returns
 returns c =
     rw c.undo-back.ensures.tape
-    (clause_judged _ _ _ _ _ c.requires _ _ _ _ _ _ _ c.falsify_clause-fell.ensures _ _ _ _ _ _ c.judge_behind-judged.ensures
-    _ _ _ c.undo-back.ensures.back c.undo-back.ensures.t c.undo-back.ensures.turns _ c.plus.ensures)
+    (clause_judged c.requires c.falsify_clause-fell.ensures c.judge_behind-judged.ensures c.undo-back.ensures.back c.undo-back.ensures.t c.undo-back.ensures.turns
+    c.plus.ensures)

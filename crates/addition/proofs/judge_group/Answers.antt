@@ -6,19 +6,17 @@ use Rattle.addition.proofs.judge_group.Goals as goal
 
 pub overflow_add-turns : goal.overflow_add-turns
 overflow_add-turns c =
-    let few = short_turns _ _ _ _ c.args.group.now c.requires.fit _ _ c.lookup-found.ensures.place _ c.lookup-found.ensures.turns (omega arith) in
+    let few = short_turns c.args.group.now _ _ c.requires.fit c.lookup-found.ensures.place c.lookup-found.ensures.turns (omega arith) in
     omega arith
 
 pub judge_there-requires-clause-turns_bound : goal.judge_there-requires-clause-turns_bound
 judge_there-requires-clause-turns_bound c =
-    one_bound _ _ _ _ _ c.requires.fit _ _ c.lookup-found.ensures.place _ c.lookup-found.ensures.turns (omega arith)
+    one_bound _ _ _ c.requires.fit c.lookup-found.ensures.place c.lookup-found.ensures.turns (omega arith)
 
 pub returns-in-Some : goal.returns-in-Some
 returns-in-Some c =
-    one_judged _ _ _ _ _ c.requires.fit _ _ c.lookup-found.ensures.place _ c.lookup-found.ensures.turns (omega arith) _ _ _ _ c.half-d.ensures.0 _ _ _ _ _
-    c.judge_there.ensures
+    one_judged _ _ _ c.requires.fit c.lookup-found.ensures.place c.lookup-found.ensures.turns (omega arith) c.half-d.ensures.0 c.judge_there.ensures
 
 pub returns-in-None : goal.returns-in-None
 returns-in-None c =
-    one_lacks _ _ _ _ _ c.requires.fit _ _ c.lookup-found.ensures.place _ c.lookup-found.ensures.turns (omega arith) _ _ _ _ c.half-d.ensures.0
-    c.args.a.now.within c.in-None.is
+    one_lacks _ _ _ c.requires.fit c.lookup-found.ensures.place c.lookup-found.ensures.turns (omega arith) c.half-d.ensures.0 c.args.a.now.within c.in-None.is

@@ -8,22 +8,22 @@ use Rattle.addition.proofs.judge_groups.Goals as goal
 pub loop-group-init : goal.loop-group-init
 loop-group-init c =
     rw (ap (λ s. chunk_by_rest s) c.into_iter-group-iterator.ensures.into_iter_gives ∙ c.chunk_by-group-items.ensures.rest)
-    (going_start _ _ _ _ _ _ _ _ c.args.a.now.within c.requires.group_at)
+    (going_start c.args.a.now.within c.requires.group_at)
 
 pub judge_group-judged-requires-clause-fit : goal.judge_group-judged-requires-clause-fit
-judge_group-judged-requires-clause-fit c = going_fit _ _ _ _ _ _ _ _ _ _ _ _ _ _ c.loop-group.invariant c.requires.fit
+judge_group-judged-requires-clause-fit c = going_fit c.loop-group.invariant c.requires.fit
 
 pub returns-then-is_err : goal.returns-then-is_err
 returns-then-is_err c =
     let cut = c.in-Some.ensures.steps in
-    going_stop _ _ _ _ _ _ _ _ _ _ _ _ _ _ c.loop-group.invariant _ _ cut.0 cut.1 (cut.2 goes_on (answers_always _ _ _ (λ f a r f' k. search (rules, tests)))).1 _ _ _ _ _ c.judge_group-judged.ensures
-    _ c.plus-turns.ensures cc
+    let alone = (cut.2 goes_on (answers_always _ _ _ (λ f a r f' k. search (rules, tests)))).1 in
+    going_stop c.loop-group.invariant _ _ cut.0 cut.1 alone c.judge_group-judged.ensures c.plus-turns.ensures cc
 
 pub loop-group-preserved : goal.loop-group-preserved
 loop-group-preserved c =
     let cut = c.in-Some.ensures.steps in
-    going_on _ _ _ _ _ _ _ _ _ _ _ _ _ _ c.loop-group.invariant _ _ cut.0 cut.1 (cut.2 goes_on (answers_always _ _ _ (λ f a r f' k. search (rules, tests)))).1 _ _ _ _ _ c.judge_group-judged.ensures
-    _ c.plus-turns.ensures cc
+    let alone = (cut.2 goes_on (answers_always _ _ _ (λ f a r f' k. search (rules, tests)))).1 in
+    going_on c.loop-group.invariant _ _ cut.0 cut.1 alone c.judge_group-judged.ensures c.plus-turns.ensures cc
 
 pub returns : goal.returns
-returns c = going_end _ _ _ _ _ _ _ _ _ _ _ _ _ _ c.loop-group.invariant c.in-None.ensures.steps.0
+returns c = going_end c.loop-group.invariant c.in-None.ensures.steps.0

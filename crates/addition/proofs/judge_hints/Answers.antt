@@ -5,15 +5,15 @@ use Rattle.addition.proofs.judge_hints.Goals as goal
 
 pub returns-in-Ok-Conflict : goal.returns-in-Ok-Conflict
 returns-in-Ok-Conflict c =
-    hints-fine _ _ _ _ _ _ c.requires.begun _ c.next_group.ensures _ _ c.split_at.ensures.front c.split_at.ensures.back _ _ _ _ _ _ _ c.take_hints-taken.ensures (omega arith) _ _ _ c.plus-passed.ensures c.plus-turns.ensures
-    _ c.in-Ok-Conflict.is (rw c.in-Ok-Conflict.is at c.in-Ok-Conflict.field-0-is)
+    hints-fine c.requires.begun c.next_group.ensures c.split_at.ensures.front c.split_at.ensures.back c.take_hints-taken.ensures (omega arith)
+    c.plus-passed.ensures c.plus-turns.ensures c.in-Ok-Conflict.is (rw c.in-Ok-Conflict.is at c.in-Ok-Conflict.field-0-is)
 
 pub returns-in-Ok-Forced : goal.returns-in-Ok-Forced
 returns-in-Ok-Forced c =
-    hints_ended _ _ _ _ _ _ c.requires.begun _ c.next_group.ensures _ _ c.split_at.ensures.front c.split_at.ensures.back _ _ _ _ _ _ _ c.take_hints-taken.ensures (omega arith) _ _ _ c.plus-passed.ensures c.plus-turns.ensures
-    _ c.in-Ok-Forced.is (rw c.in-Ok-Forced.is at c.in-Ok-Forced.field-0-is) _ _ _ _ _ c.after_hints.ensures
+    hints_ended c.requires.begun c.next_group.ensures c.split_at.ensures.front c.split_at.ensures.back c.take_hints-taken.ensures (omega arith)
+    c.plus-passed.ensures c.plus-turns.ensures c.in-Ok-Forced.is (rw c.in-Ok-Forced.is at c.in-Ok-Forced.field-0-is) c.after_hints.ensures
 
 pub returns-in-Err : goal.returns-in-Err
 returns-in-Err c =
-    hints_at_fault _ _ _ _ _ _ c.requires.begun _ c.next_group.ensures _ _ c.split_at.ensures.front c.split_at.ensures.back _ _ _ _ _ _ _ c.take_hints-taken.ensures (omega arith) _ _ _ c.plus-passed.ensures c.plus-turns.ensures
-    _ c.in-Err.is _ c.from.ensures
+    hints_at_fault c.requires.begun c.next_group.ensures c.split_at.ensures.front c.split_at.ensures.back c.take_hints-taken.ensures (omega arith)
+    c.plus-passed.ensures c.plus-turns.ensures c.in-Err.is c.from.ensures

@@ -5,18 +5,18 @@ use Rattle.addition.proofs.Grouping.{place_placed, place_known, place_undoable, 
 use Rattle.addition.proofs.judge_there.Goals as goal
 
 pub clause-requires : goal.clause-requires
-clause-requires c = place_placed _ _ _ _ c.requires.fit _ _ c.requires.place_of
+clause-requires c = place_placed c.requires.fit c.requires.place_of
 
 pub falsify_others-fell-requires-clause-marked : goal.falsify_others-fell-requires-clause-marked
 falsify_others-fell-requires-clause-marked c =
-    rw c.clause.ensures (place_known _ _ _ _ c.requires.fit _ _ c.requires.place_of)
+    rw c.clause.ensures (place_known c.requires.fit c.requires.place_of)
 
 pub undo-back-requires : goal.undo-back-requires
 undo-back-requires c =
-    place_undoable _ _ _ _ c.requires.fit _ _ c.requires.place_of _ _ _ _ _ c.clause.ensures _ _ _ _ _ c.falsify_others-fell.ensures _ _ _ _ _ c.try_hints-tried.ensures
+    place_undoable _ _ c.requires.fit c.requires.place_of c.clause.ensures c.falsify_others-fell.ensures c.try_hints-tried.ensures
 
 pub returns : goal.returns
 returns c =
     rw c.undo-back.ensures.tape
-    (place_judged _ _ _ _ c.requires.fit _ _ c.requires.place_of _ _ _ _ _ c.clause.ensures _ _ _ _ _ c.falsify_others-fell.ensures _ _ _ _ _ c.try_hints-tried.ensures
-    c.args.a.now.within _ c.requires.turns_bound _ _ _ c.undo-back.ensures.back c.undo-back.ensures.t c.undo-back.ensures.turns (omega arith) _ c.plus.ensures)
+    (place_judged _ _ c.requires.fit c.requires.place_of c.clause.ensures c.falsify_others-fell.ensures c.try_hints-tried.ensures c.args.a.now.within c.requires.turns_bound
+    c.undo-back.ensures.back c.undo-back.ensures.t c.undo-back.ensures.turns (omega arith) c.plus.ensures)
