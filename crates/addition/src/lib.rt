@@ -132,7 +132,8 @@ fn judge_there(
 fn judge_group(view: View, a: &mut Assignment, group: &[u32], q: u32) -> Judged
     requires fit { Fit view.heads.now view.lits.now view.n a.old.marks.now }
     requires begins { 0 < length group.now }
-    ensures { JudgesGroup (live_in view.entry) view.entry.lits.now a.old.marks.now a.old.tape.now a.old.t q (slice_index group.now 0 / 2) (ids_of (drop 1 group.now)) (length group.now) a.new.marks.now a.new.tape.now result.value a.new.t result.turns }
+    ensures { JudgesGroup (live_in view.entry) view.entry.lits.now a.old.marks.now a.old.tape.now a.old.t q (slice_index group.now 0 / 2) (ids_of (drop 1 group.now)) (length group.now)
+        a.new.marks.now a.new.tape.now result.value a.new.t result.turns }
 {
     let d = clauses::half(group[0]);
     let found = view.lookup(d);
