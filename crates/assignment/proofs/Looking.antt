@@ -1,10 +1,7 @@
 -- Laws of looking at a clause: what is kept of the literals that are not false says what the document's definition, which
 -- takes them out first, says. The code keeps it as two numbers, and the laws as a value of `Open`. Assumes nothing.
-use Rattle.std.proofs.Common.{ℕ, zero, suc, ◌+◌, ◌<◌, ◌≤◌, ◌≡◌, true, false, List, [], ◌∷◌, map, eqb, length, get_or, drop, min, ◌-◌, ◌++◌}
-use Rattle.std.proofs.Common.{refl, sym, ap, subst, ◌∙◌, ⊎_elim, add-one, add-zero, arith, eqb-true, eq-eqb, ne_eqb, drop_of_length-le, drop-cons, add_assoc, get_or-drop, drop-drop, length-drop}
-use Rattle.std.proofs.Math.ListN.{get_or-append}
-use Rattle.std.proofs.Math.Seq.{drop-append_seam}
-use Rattle.std.proofs.lemmas.Int.{clamps}
+use Rattle.std.proofs.Common.{ℕ, zero, suc, ◌+◌, ◌<◌, ◌≤◌, ◌≡◌, true, false, List, [], ◌∷◌, map, eqb, length, get_or, drop}
+use Rattle.std.proofs.Common.{refl, sym, ap, subst, ◌∙◌, ⊎_elim, add-one, arith, eqb-true, eq-eqb, ne_eqb, drop_of_length-le, drop-cons, add_assoc}
 use borrow.Author.Tests.{eqb-false}
 use Rattle.meaning.specs.Meaning.{Literal, Clause}
 use Rattle.meaning.proofs.Truth.{bool_cases}
@@ -13,7 +10,7 @@ use Rattle.clauses.specs.Codes.{literal_of, opposite_code}
 use Rattle.clauses.proofs.Literals.{same_literal_lem}
 use Rattle.clauses.proofs.Numbers.{cut}
 use Rattle.assignment.specs.Marks.{mark_of, Shows, Paired, Marked}
-use Rattle.assignment.specs.Sight.{In, ForcedIn, Looks, Counted, Latest, OneForced, OneLooks}
+use Rattle.assignment.specs.Sight.{In, ForcedIn, Looks, Counted, Latest, Behind, OneForced, OneLooks}
 use Rattle.assignment.specs.declared.Look.{Look as Sight}
 use Rattle.assignment.specs.declared.Look.TheVariants.{AllFalse, Forces, Neither}
 use Rattle.assignment.proofs.Marking.{shows_true, shows_untrue, paired_opposite}
@@ -274,68 +271,21 @@ module _ (clause marks : List ℕ) (others last i : ℕ) (l : Looking clause mar
   unfolding concluded
   looking_more end more = record { says = λ a s. all end a s ∙ ap (concluded a) (open_more others last more); forced = tt }
 
--- The pieces of two literals that are left are those of the clause from i on.
-pub record Pairwise (clause marks : List ℕ) (others last : ℕ) (rest : List ℕ) (size i : ℕ) : Type 0 where
-  pub looking : Looking clause marks others last i
-  pub rest-is : rest ≡ drop i clause
-  pub two : size ≡ 2
-
-pub pairs_done : (clause marks : List ℕ) (others last : ℕ) (rest : List ℕ) (size i : ℕ) → Pairwise clause marks others last rest size i → length rest ≡ 0 → length clause ≤ i
-pairs_done clause marks others last rest size i p none = let e : length clause - i ≡ 0 = sym (ap length p.rest-is ∙ length-drop i clause) ∙ none in omega (arith, e)
-
--- One turn: the literals of a piece, or its only literal twice.
-module _ (clause marks : List ℕ) (others last : ℕ) (rest : List ℕ) (size i : ℕ) (p : Pairwise clause marks others last rest size i) (pair rest' : List ℕ)
-    (cut-off : rest ≡ pair ++ rest') (long : length pair ≡ min size (length rest)) (some : 0 < length rest) where
-  left_over : length rest ≡ length clause - i
-  left_over = ap length p.rest-is ∙ length-drop i clause
-
-  pair_long : length pair ≡ min 2 (length clause - i)
-  pair_long = rw (p.two, left_over) at long
-
-  more_left : i < length clause
-  more_left = omega (arith, left_over, some)
-
-  reads : (k : ℕ) → k < length pair → get_or pair k 0 ≡ get_or clause (i + k) 0
-  reads k h = sym (get_or-append pair rest' 0 k h) ∙ (ap (λ (xs : List ℕ). get_or xs k 0) (sym cut-off ∙ p.rest-is) ∙ get_or-drop i clause k 0)
-
-  pub pair_last : length pair - 1 < length pair
-  pair_last = omega (arith, clamps, pair_long, more_left)
-
-  rest_on : rest' ≡ drop (i + 2) clause
-  rest_on =
-      let behind : rest' ≡ drop (i + length pair) clause =
-      sym (drop-append_seam pair rest') ∙ (ap (drop (length pair)) (sym cut-off ∙ p.rest-is) ∙ drop-drop (length pair) i clause) in
-      ⊎_elim
-      (λ two. let e : length pair ≡ 2 = omega (arith, clamps, pair_long) in behind ∙ ap (λ (n : ℕ). drop (i + n) clause) e)
-      (λ one. behind ∙ (drop_of_length-le clause (omega (arith, clamps, pair_long, more_left)) ∙ sym (drop_of_length-le clause (omega (arith, one)))))
-      (cut (i + 1) (length clause))
-
-  module _ (known : Marked clause marks) where
-    pub pair_inside : (k : ℕ) → k < length pair → get_or pair k 0 < length marks
-    pair_inside k h = rw (reads k h) (known.below (i + k) (omega (arith, clamps, pair_long)))
-
-    pub pair_on : Paired marks → (first middle : ℕ) → Counted last (get_or pair 0 0) (get_or marks (get_or pair 0 0) 0) first → Latest last (get_or pair 0 0) (get_or marks (get_or pair 0 0) 0) middle
-        → (second last' : ℕ) → Counted middle (get_or pair (length pair - 1) 0) (get_or marks (get_or pair (length pair - 1) 0) 0) second
-        → Latest middle (get_or pair (length pair - 1) 0) (get_or marks (get_or pair (length pair - 1) 0) 0) last'
-        → (size' : ℕ) → size' ≡ size → (i' : ℕ) → i' ≡ i + 2 → Pairwise clause marks (others + (first + second)) last' rest' size' i'
-    pair_on paired first middle k m second last' k' m' size' same i' on =
-        let q : get_or pair 0 0 ≡ get_or clause i 0 = rw add-zero at (reads 0 (omega (arith, clamps, pair_long, more_left))) in
-        let one = looking_on clause marks others last i p.looking known more_left paired first middle (rw q at k) (rw q at m) in
-        let both : i + 1 + 1 ≡ i + 2 = omega arith in
-        rw on record {
-          looking = rw (← add_assoc others first second) (rw both at (⊎_elim
-              (λ some.
-              let e : length pair ≡ 2 = omega (arith, clamps, pair_long) in
-              let q' : get_or pair (length pair - 1) 0 ≡ get_or clause (i + 1) 0 = reads (length pair - 1) pair_last ∙ ap (λ (n : ℕ). get_or clause (i + (n - 1)) 0) e in
-              looking_on clause marks (others + first) middle (i + 1) one known some paired second last' (rw q' at k') (rw q' at m'))
-              (λ none.
-              let e : length pair ≡ 1 = omega (arith, clamps, pair_long, more_left) in
-              let q' : get_or pair (length pair - 1) 0 ≡ get_or pair 0 0 = ap (λ (n : ℕ). get_or pair (n - 1) 0) e in
-              looking_again clause marks (others + first) middle (i + 1) one known none (get_or pair 0 0) (get_or marks (get_or pair 0 0) 0) last m second last' (rw q' at k') (rw q' at m'))
-              (cut (i + 1) (length clause))));
-          rest-is = rest_on;
-          two = same ∙ p.two;
-        }
+-- One turn: the literal at i, and the one behind it or the same once more.
+module _ (clause marks : List ℕ) (others last i : ℕ) (l : Looking clause marks others last i) (known : Marked clause marks) (more : i < length clause) (j : ℕ) (b : Behind i (length clause) j) where
+  pub looking_two : Paired marks → (first middle : ℕ) → Counted last (get_or clause i 0) (get_or marks (get_or clause i 0) 0) first
+      → Latest last (get_or clause i 0) (get_or marks (get_or clause i 0) 0) middle
+      → (second last' : ℕ) → Counted middle (get_or clause j 0) (get_or marks (get_or clause j 0) 0) second → Latest middle (get_or clause j 0) (get_or marks (get_or clause j 0) 0) last'
+      → Looking clause marks (others + (first + second)) last' (i + 2)
+  looking_two paired first middle k m second last' k' m' =
+      let one = looking_on clause marks others last i l known more paired first middle k m in
+      let both : i + 1 + 1 ≡ i + 2 = omega arith in
+      rw (← add_assoc others first second) (rw both at (⊎_elim
+      (λ some. let q = b.is_next some in looking_on clause marks (others + first) middle (i + 1) one known some paired second last' (rw q at k') (rw q at m'))
+      (λ none.
+      let q = b.is_last none in
+      looking_again clause marks (others + first) middle (i + 1) one known none (get_or clause i 0) (get_or marks (get_or clause i 0) 0) last m second last' (rw q at k') (rw q at m'))
+      (cut (i + 1) (length clause))))
 
 -- One literal alone
 

@@ -1,5 +1,5 @@
 -- What one look at a clause shows, in terms of document 01's rule 3 (rules' Judging).
-use Rattle.std.specs.Prelude.{ℕ, ◌<◌, ◌≤◌, ◌≡◌, List, [], ◌∷◌, map, length, get_or}
+use Rattle.std.specs.Prelude.{ℕ, ◌+◌, ◌<◌, ◌≤◌, ◌≤◌, ◌≡◌, List, [], ◌∷◌, map, length, get_or}
 use Rattle.rules.specs.Judging.{Trail, Look, all_false, forces, neither, look_of, look_at}
 use Rattle.clauses.specs.Codes.{literal_of, opposite_code}
 use Rattle.assignment.specs.Marks.{Shows}
@@ -44,6 +44,12 @@ pub record Counted (last x mark r : ℕ) : Type 0 where
 pub record Latest (last x mark r : ℕ) : Type 0 where
   pub taken : mark ≡ 0 → r ≡ x
   pub passed : (mark ≡ 0 → ⊥) → r ≡ last
+
+-- The place behind i among n, or i again where there is none.
+pub record Behind (i n r : ℕ) : Type 0 where
+  pub inside : r < n
+  pub is_next : i + 1 < n → r ≡ i + 1
+  pub is_last : n ≤ i + 1 → r ≡ i
 
 -- What is forced, if something is, is this literal, and it is not true yet.
 abbrev pub OneForced : ℕ → List ℕ → Sight → Type 0

@@ -4,7 +4,7 @@
 
 ghost use Rattle.std.specs.Prelude.{◌≡◌, ◌-◌, ◌<◌, ◌≤◌, min, length};
 ghost use Rattle.assignment.specs.Marks.{Paired, Marked, Falsifies, Undoable, Undone};
-ghost use Rattle.assignment.specs.Sight.{Counted, Latest, OneLooks, Looks};
+ghost use Rattle.assignment.specs.Sight.{Counted, Latest, Behind, OneLooks, Looks};
 
 // The marks, the tape, and how many numbers are on the tape.
 #[derive(Drop)]
@@ -39,7 +39,7 @@ impl Assignment<'_> {
     }
 
     // The marks of the numbers on the tape from `from` on are taken away, and the numbers too; none is, if there are no more than
-    // `from`. Returns the turns.
+    // `from`. Returns the turns. (Tried: a `for` over that part of the tape. Behind the loan the proof no longer knows the tape.)
     pub fn undo(&mut self, from: usize) -> u64
         requires { Undoable self.old.marks.now self.old.tape.now from self.old.t }
         ensures back { Undone self.old.marks.now self.old.tape.now from self.old.t self.new.marks.now }
@@ -85,10 +85,20 @@ fn only_one(x: u32, marks: &[u8]) -> Look
     }
 }
 
+// The place behind `i`, or `i` again if that is the last one. (Tried: `min(i + 1, n - 1)`, which takes more instructions a turn.)
+fn behind(i: usize, n: usize) -> usize
+    requires { i < n }
+    ensures { Behind i n result }
+{
+    let next = i + 1;
+    if next < n { next } else { i }
+}
+
 // Looks at a clause: all its literals are read, one turn for two of them. What is kept is the last literal that is not false, and how
 // often one was met that is another than the last before it: never, once however often that one is written, or more often. At first
 // the last is a number that no literal has. No branch is taken on a mark: which literals are false nobody can foretell. Nor is
 // one on whether there is a second literal in the last turn: the first is read twice there, which tells nothing new.
+// (Tried: a `for` over `clause.chunks(2)`, which takes more instructions a turn.)
 pub fn look_at(clause: &[u32], marks: &[u8]) -> Look
     requires paired { Paired marks.now }
     requires marked { Marked clause.now marks.now }
@@ -96,14 +106,18 @@ pub fn look_at(clause: &[u32], marks: &[u8]) -> Look
 {
     let mut others: usize = 0;
     let mut last: u32 = u32::MAX;
-    for pair in clause.chunks(2) {
-        let x = pair[0];
-        let y = pair[pair.len() - 1];
+    let mut i = 0;
+    while i < clause.len() {
+        let x = clause[i];
+        let y = clause[behind(i, clause.len())];
         let mark = marks[x as usize];
         let other = marks[y as usize];
+        let first = counted(last, x, mark);
         let middle = latest(last, x, mark);
-        others += counted(last, x, mark) + counted(middle, y, other);
+        let second = counted(middle, y, other);
+        others += first + second;
         last = latest(middle, y, other);
+        i += 2;
     }
     match others {
         0 => Look::AllFalse,

@@ -1,9 +1,9 @@
 -- What the clauses of a store take, one for each and one for each literal, is what the live ones take and what the deleted ones
 -- take. So a caller knows how much of a store is waste. Assumes nothing.
-use Rattle.std.proofs.Common.{ℕ, zero, suc, ◌+◌, ◌-◌, ◌/◌, ◌%◌, ◌<◌, ◌≤◌, ◌≡◌, refl, ap, ◌∙◌, List, [], ◌∷◌, ◌++◌, arith, add-one, eqb-true, eqb, length, take, length-drop, length-take-le}
+use Rattle.std.proofs.Common.{ℕ, zero, suc, ◌+◌, ◌-◌, ◌/◌, ◌%◌, ◌<◌, ◌≤◌, ◌≡◌, refl, ap, ◌∙◌, List, [], ◌∷◌, ◌++◌, arith, add-one, eqb-true, eqb, length}
 use borrow.Author.Tests.{eqb-false}
 use Rattle.std.proofs.Math.ListN.{length-map}
-use Rattle.std.proofs.Math.Seq.{slice}
+use Rattle.std.proofs.Math.Seq.{slice, length-slice}
 use Rattle.meaning.specs.Meaning.{Clause}
 use Rattle.meaning.proofs.Truth.{bool_cases}
 use Rattle.rules.specs.Judging.{Live}
@@ -28,16 +28,12 @@ unfolding weight
 weight-append [] more = omega arith
 weight-append (e ∷ live) more = omega (arith, weight-append live more)
 
--- A part of a list is as long as its bounds are apart.
-length-slice : (xs : List ℕ) (a e : ℕ) → e ≤ length xs → length (slice a e xs) ≡ e - a
-length-slice xs a e h = length-drop a (take e xs) ∙ ap (λ (n : ℕ). n - a) (length-take-le e xs h)
-
 module _ (heads lits : List ℕ) (n used last : ℕ) (s : Store heads lits n used last) where
   clause-long : (k : ℕ) → k < n → length (clause_at heads lits k) ≡ start_at heads (k + 1) - start_at heads k
   clause-long k l =
       let end : start_at heads (k + 1) ≤ length lits = omega (arith, start-below heads lits n used last s (k + 1) (omega arith), s.fits) in
       ap length (clause_is heads lits k (start_at heads k) (start_at heads (k + 1)) refl refl)
-      ∙ (length-map (slice (start_at heads k) (start_at heads (k + 1)) lits) literal_of ∙ length-slice lits (start_at heads k) (start_at heads (k + 1)) end)
+      ∙ (length-map (slice (start_at heads k) (start_at heads (k + 1)) lits) literal_of ∙ length-slice (start_at heads k) (start_at heads (k + 1)) lits end)
 
   -- A clause takes the same, live or deleted.
   entry_weight : (k : ℕ) → k < n → weight (entry_at heads lits k) + dead_at heads k ≡ start_at heads (k + 1) - start_at heads k + 1

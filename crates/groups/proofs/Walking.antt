@@ -1,6 +1,6 @@
 -- The walk over the store, with the groups beside it: one clause, one group, and all of them. Assumes nothing.
 use Rattle.std.proofs.Common.{ℕ, zero, suc, ◌+◌, ◌-◌, ◌/◌, ◌%◌, ◌^◌, ◌<◌, ◌≤◌, min, ◌≡◌, Bool, true, false, List, [], ◌∷◌, ◌++◌, map, eqb, length, get_or, drop, Result, Ok, Err}
-use Rattle.std.proofs.Common.{refl, sym, ap, subst, ◌∙◌, append_assoc, arith, add-one, eqb-true, eq-eqb, ne_eqb}
+use Rattle.std.proofs.Common.{refl, sym, ap, subst, ◌∙◌, append_assoc, append-nil, arith, add-one, eqb-true, eq-eqb, ne_eqb}
 use borrow.Author.Tests.{eqb-false}
 use Rattle.std.proofs.Math.Option.{Option, none, some}
 use Rattle.meaning.specs.Meaning.{Literal, Clause}
@@ -182,11 +182,7 @@ live_from heads lits k (suc d) = entry_at heads lits k ++ live_from heads lits (
 module _ (heads lits : List ℕ) where
   live_split : (d k : ℕ) → live_of heads lits (k + d) ≡ live_of heads lits k ++ live_from heads lits k d
   unfolding live_from
-  live_split zero k = let z : k + zero ≡ k = omega arith in rw z (sym (append_nothing (live_of heads lits k)))
-    where
-      append_nothing : (l : Live) → l ++ [] ≡ l
-      append_nothing [] = refl
-      append_nothing (e ∷ l) = ap (λ (m : Live). e ∷ m) (append_nothing l)
+  live_split zero k = let z : k + zero ≡ k = omega arith in rw z (sym (append-nil (live_of heads lits k)))
   live_split (suc d) k =
       let z : k + suc d ≡ suc k + d = omega arith in
       ap (live_of heads lits) z

@@ -1,8 +1,11 @@
--- `assignment::look_at` meets its contract. The loop's invariant: the two numbers that are kept of the literals of the pieces so
--- far, and the literals behind them, say what the whole clause says (`Pairwise`). Assumes nothing.
-use Rattle.std.proofs.Common.{◌*◌, length}
-use Rattle.assignment.proofs.Looking.{Pairwise}
+-- `assignment::look_at` meets its contract. The loop's invariant: the two numbers that are kept of the literals before i, and the
+-- literals from i on, say what the whole clause says (`Looking`). The measure is what is left of the clause. Assumes nothing.
+use Rattle.std.proofs.Common.{◌-◌, length}
+use Rattle.assignment.proofs.Looking.{Looking}
 use Rattle.assignment.proofs.look_at.Given as goal
 
-abbrev pub invariant-loop-pair : goal.invariant-loop-pair
-invariant-loop-pair l = Pairwise l.clause l.marks l.others l.last l.pair-iterator.rest.now l.pair-iterator.size (length l.yielded * 2)
+abbrev pub invariant-loop-i : goal.invariant-loop-i
+invariant-loop-i l = Looking l.clause l.marks l.others l.last l.i
+
+abbrev pub decreases-loop-i : goal.decreases-loop-i
+decreases-loop-i l = length l.clause - l.i
