@@ -1,6 +1,6 @@
 -- A whole formula: its end, its clauses, its first line. Assumes nothing.
 use Rattle.std.proofs.Common.{ℕ, ◌+◌, ◌*◌, ◌-◌, ◌≤◌, ◌≡◌, ◌≢◌, true, false, List, [], ◌∷◌, length, take, drop}
-use Rattle.std.proofs.Common.{refl, sym, ap, subst, ◌∙◌, inl, inr, ⊎_elim, arith, length-drop}
+use Rattle.std.proofs.Common.{refl, sym, ap, subst, ◌∙◌, inl, inr, ⊎_elim, arith, length-drop, length-take-le}
 use Rattle.std.proofs.Math.Option.{Option, none, some}
 use Rattle.meaning.specs.Meaning.{Clause, Formula}
 use Rattle.rules.specs.Text.{Token, tokens}
@@ -78,14 +78,17 @@ module _ (v c : ℕ) (s : List ℕ) (line at : ℕ) (b : Behind s line at) (head
       body : BodyDone v c s at heads' lits' done.next done.used
       body = read.case
 
+      rest_fits : done.used ≤ length lits'
+      rest_fits = body.holds.store.fits
+
       formula_of_lem : Formula
       formula_of_lem = record { vars = v; clauses = body.clauses }
 
-      finished : (r : Result Stored Stopped) → FinishCase s done v c lits' r → ReadCase (rest_of v c (tokens (drop (line + 1) s))) s heads₀ lits₀ heads' lits' r
+      finished : (r : Result Stored Stopped) → FinishCase s done.next v c (take done.used lits') r → ReadCase (rest_of v c (tokens (drop (line + 1) s))) s heads₀ lits₀ heads' lits' r
       unfolding formula_of_lem
       finished (Ok r) q =
           let count : length body.clauses ≡ c = (clauses_within v c (tokens (drop at s)) (body.clauses, tokens (drop done.next s)) (tokens_proper (drop at s)) body.is).as_many in
-          rw q.1
+          rw (q.1, length-take-le done.used lits' rest_fits)
           (record {
             formula = formula_of_lem;
             is = ap (rest_of v c) (sym same_tokens) ∙ rest_done v c (tokens (drop at s)) (tokens (drop done.next s)) body.clauses body.is q.0;
@@ -97,14 +100,14 @@ module _ (v c : ℕ) (s : List ℕ) (line at : ℕ) (b : Behind s line at) (head
             few = omega (arith, body.few, tokens-room s at b.within);
           })
       finished (Err stop) q =
-          rw q.1
+          rw (q.1, length-take-le done.used lits' rest_fits)
           (record {
             is = ap (rest_of v c) (sym same_tokens) ∙ rest_more v c (tokens (drop at s)) (tokens (drop done.next s)) body.clauses body.is q.0.0 q.0.1 q.0.2;
             within = body.within;
             few = omega (arith, body.few, tokens-room s at b.within);
           })
 
-      pub rest_finished : (r : Result Stored Stopped) → Finishes s done v c lits' r → ReadsRest v c s line heads₀ lits₀ heads' lits' r
+      pub rest_finished : (r : Result Stored Stopped) → Finishes s done.next v c (take done.used lits') r → ReadsRest v c s line heads₀ lits₀ heads' lits' r
       rest_finished r q = record { case = finished r q.case }
 
 -- The first line

@@ -8,7 +8,6 @@ use Rattle.rules.specs.Formula.{read_clauses, at_end, read_formula}
 use Rattle.rules.specs.Answers.{numbered}
 use Rattle.clauses.specs.Store.{Holds}
 use Rattle.formula.specs.Body.{greatest}
-use Rattle.formula.specs.declared.body.Progress.{Progress}
 use Rattle.formula.specs.declared.Fault.{Fault}
 use Rattle.formula.specs.declared.Fault.TheVariants.{Unreadable, TooShort}
 use Rattle.formula.specs.declared.Stopped.{Stopped}
@@ -29,15 +28,14 @@ rest_of v c ts = do
   (cs, rest) ← read_clauses v c ts
   at_end rest (record { vars = v; clauses = cs })
 
--- The end of reading, where all clauses are in the store.
-abbrev pub FinishCase : List ℕ → Progress → ℕ → ℕ → List ℕ → Result Stored Stopped → Type 0
-FinishCase s done v c lits (Ok r) =
-    (tokens (drop done.next s) ≡ []) × (r ≡ record { vars = v; clauses = c; used = done.used; top = greatest (take done.used lits) / 2 })
-FinishCase s done v c lits (Err stop) =
-    EndedCase (tokens (drop done.next s)) false × (stop ≡ record { fault = Unreadable; at = done.next; used = done.used; closed = c })
+-- The end of reading, where all clauses are in the store, and these are their literals.
+abbrev pub FinishCase : List ℕ → ℕ → ℕ → ℕ → List ℕ → Result Stored Stopped → Type 0
+FinishCase s next v c lits (Ok r) = (tokens (drop next s) ≡ []) × (r ≡ record { vars = v; clauses = c; used = length lits; top = greatest lits / 2 })
+FinishCase s next v c lits (Err stop) =
+    EndedCase (tokens (drop next s)) false × (stop ≡ record { fault = Unreadable; at = next; used = length lits; closed = c })
 
-pub record Finishes (s : List ℕ) (done : Progress) (v c : ℕ) (lits : List ℕ) (r : Result Stored Stopped) : Type 0 where
-  pub case : FinishCase s done v c lits r
+pub record Finishes (s : List ℕ) (next v c : ℕ) (lits : List ℕ) (r : Result Stored Stopped) : Type 0 where
+  pub case : FinishCase s next v c lits r
 
 -- The bytes s spell the formula o, if they spell one, and it was stored: its clauses, in order, literal by literal, none lost
 -- or gained, with ids 1 to C.

@@ -7,6 +7,7 @@ ghost use Rattle.rules.specs.Limits.{max_variable, max_clauses};
 ghost use Rattle.clauses.specs.Store.{Holds};
 ghost use Rattle.formula.specs.Body.{item_of, ReadsClause, Closes, ReadsBody, greatest};
 
+use crate::opening::Header;
 use crate::{Fault, Stopped};
 use text::Token;
 
@@ -50,6 +51,7 @@ pub fn read_clause(
 {
     let mut i = from.next;
     let mut w = from.used;
+    // A `for` would be no plainer: a turn moves on by a token, whose end is found as it is read, and the last one stores nothing.
     loop {
         let found = text::token_at(s, i);
         match item_of(found.token, vars) {
@@ -97,23 +99,22 @@ fn close(heads: &mut [u32], k: usize, clause: Progress) -> Result<(), Stopped>
     Ok(())
 }
 
-// So many clauses from `at` on, over variables up to `vars`, into an empty store.
+// So many clauses from `at` on, over variables up to V, into an empty store.
 pub fn read_clauses(
     s: &[u8],
     at: usize,
-    vars: u64,
-    many: usize,
+    header: Header,
     heads: &mut [u32],
     lits: &mut [u32],
 ) -> Result<Progress, Stopped>
     requires at_in_bounds { at ≤ length s.now }
-    requires vars_le_max_variable { (vars ≤ max_variable) × (many ≤ max_clauses) }
+    requires vars_le_max_variable { (header.vars ≤ max_variable) × (header.clauses ≤ max_clauses) }
     requires holds { Holds heads.old lits.old 0 0 0 [] }
-    ensures { ReadsBody vars many s.now at heads.old lits.old heads.new lits.new result }
+    ensures { ReadsBody header.vars header.clauses s.now at heads.old lits.old heads.new lits.new result }
 {
     let mut done = Progress { next: at, used: 0 };
-    for k in 0..many {
-        done = read_clause(s, done, vars, lits, k)?;
+    for k in 0..header.clauses {
+        done = read_clause(s, done, header.vars, lits, k)?;
         close(heads, k, done)?;
     }
     Ok(done)

@@ -15,7 +15,6 @@ ghost use Rattle.writer.specs.Text.{Formed, formula_of};
 ghost use Rattle.formula.specs.Reading.{Ended, Finishes, ReadsRest, Reads};
 ghost use Rattle.formula.specs.Writing.{not_read, WritesStored, Writes};
 
-use body::Progress;
 use clauses::View;
 use opening::Header;
 use text::Token;
@@ -53,25 +52,23 @@ fn ended(s: &[u8], at: usize) -> bool
     matches!(text::token_at(s, at).token, Token::Nothing)
 }
 
-// All clauses are read; behind the last one there have to be blanks alone.
-fn finish(s: &[u8], done: Progress, vars: u64, many: usize, lits: &[u32]) -> Result<Stored, Stopped>
-    requires { done.used ≤ length lits.now }
-    ensures { Finishes s.now done vars many lits.now result }
+// All clauses are read, and these are their literals; behind the last one there have to be blanks alone.
+fn finish(s: &[u8], next: usize, header: Header, lits: &[u32]) -> Result<Stored, Stopped>
+    ensures { Finishes s.now next header.vars header.clauses lits.now result }
 {
-    if !ended(s, done.next) {
+    if !ended(s, next) {
         return Err(Stopped {
             fault: Fault::Unreadable,
-            at: done.next,
-            used: done.used,
-            closed: many,
+            at: next,
+            used: lits.len(),
+            closed: header.clauses,
         });
     }
-    let top = body::greatest_code(&lits[..done.used]) / 2;
     Ok(Stored {
-        vars,
-        clauses: many,
-        used: done.used,
-        top,
+        vars: header.vars,
+        clauses: header.clauses,
+        used: lits.len(),
+        top: body::greatest_code(lits) / 2,
     })
 }
 
@@ -97,9 +94,8 @@ fn read_rest(
     }
     clauses::begin(heads);
     let at = opening::behind(s, feed);
-    let many = header.clauses as usize;
-    let done = body::read_clauses(s, at, header.vars, many, heads, lits)?;
-    finish(s, done, header.vars, many, lits)
+    let done = body::read_clauses(s, at, header, heads, lits)?;
+    finish(s, done.next, header, &lits[..done.used])
 }
 
 // Reads a formula into the store.

@@ -45,6 +45,7 @@ pub fn after_comments(s: &[u8]) -> usize
     ensures { AfterComments s.now result }
 {
     let mut at = 0;
+    // A `for` would be no plainer: a turn passes a line, whose end is found as it is passed.
     while at < s.len() && s[at] == b'c' {
         at = after_line(s, at + 1);
     }
@@ -81,7 +82,7 @@ fn count_of(s: &[u8], limit: u64) -> Option<u64>
 #[derive(Clone, Copy)]
 pub struct Header {
     pub vars: u64,
-    pub clauses: u64,
+    pub clauses: usize,
 }
 
 // The line as `p cnf V C`.
@@ -92,5 +93,8 @@ pub fn announced(line: &[u8]) -> Option<Header>
     let space = place_of(numbers, b' ');
     let vars = count_of(&numbers[..space], 16777215)?;
     let clauses = count_of(&numbers[behind(numbers, space)..], 16777215)?;
-    Some(Header { vars, clauses })
+    Some(Header {
+        vars,
+        clauses: clauses as usize,
+    })
 }

@@ -1,6 +1,6 @@
 -- The decimal digits of a number, one at a time, from the last one on. Assumes nothing.
-use Rattle.std.proofs.Common.{ℕ, zero, suc, ◌+◌, ◌/◌, ◌%◌, ◌≤◌, ◌<◌, ◌^◌, ◌≡◌, List, [], ◌∷◌, ◌++◌, ltb, length}
-use Rattle.std.proofs.Common.{refl, ap, ◌∙◌, arith, pow-suc, ltb-true, ltb-false, lt-ltb, le-ltb, length-append}
+use Rattle.std.proofs.Common.{ℕ, zero, suc, ◌+◌, ◌*◌, ◌/◌, ◌%◌, ◌≤◌, ◌<◌, ◌^◌, ◌≡◌, List, [], ◌∷◌, ◌++◌, ltb, length}
+use Rattle.std.proofs.Common.{refl, sym, ap, ◌∙◌, arith, pow-suc, ltb-true, ltb-false, lt-ltb, le-ltb, length-append}
 use Rattle.meaning.proofs.Truth.{bool_cases}
 use Rattle.rules.specs.Written.{decimal_onto, decimal}
 use Rattle.writer.specs.Text.{Sized}
@@ -55,27 +55,22 @@ length-below (suc d) n h =
     (λ y. omega (arith, length_small n (ltb-true n 10 y)))
     (λ m. omega (arith, length_large n (ltb-false n 10 m), length-below d (n / 10) (omega (arith, pow-suc 10 (suc d)))))
 
-pub length_fits : (n : ℕ) → n < 2 ^ 64 → length (decimal n) ≤ 20
-length_fits n h = length-below 19 n (omega arith)
+-- And a number that is not below a power of ten has more.
+length-above : (d n : ℕ) → 10 ^ d ≤ n → suc d ≤ length (decimal n)
+length-above zero n h = decimal-some n
+length-above (suc d) n h =
+    let large : 10 ≤ n = omega (arith, pow-suc 10 d, power-some d) in
+    omega (arith, length_large n large, length-above d (n / 10) (omega (arith, pow-suc 10 d)))
+  where
+    power-some : (d : ℕ) → 1 ≤ 10 ^ d
+    power-some zero = omega arith
+    power-some (suc d) = omega (arith, pow-suc 10 d, power-some d)
 
--- Counting the digits: those that are counted and those of what is left, which has at least one, are all, and one more.
-pub record Counting (v rest count : ℕ) : Type 0 where
-  pub left : count + length (decimal rest) ≡ length (decimal v) + 1
-  pub few : length (decimal v) ≤ 20
+pub sized_tens : (v tens : ℕ) → 10 ^ tens ≤ v → v < 10 * 10 ^ tens → tens < 20 → Sized (decimal v) (tens + 1) 20
+sized_tens v tens h l few =
+    let above = length-above tens v h in
+    let below = length-below tens v (omega (arith, pow-suc 10 tens)) in
+    record { is = omega arith; some = omega arith; few = omega arith }
 
-pub counting_start : (v : ℕ) → v < 2 ^ 64 → Counting v v 1
-counting_start v h = record { left = omega arith; few = length_fits v h }
-
-module _ {v rest count : ℕ} (c : Counting v rest count) where
-  pub counting_below : count ≤ 20
-  counting_below = omega (arith, c.left, c.few, decimal-some rest)
-
-  pub counting_on : 10 ≤ rest → Counting v (rest / 10) (count + 1)
-  counting_on h = record { left = omega (arith, c.left, length_large rest h); few = c.few }
-
-  pub counting_end : rest < 10 → Sized (decimal v) count 20
-  counting_end h = record {
-    is = omega (arith, c.left, length_small rest h);
-    some = omega (arith, c.left, length_small rest h, decimal-some v);
-    few = counting_below;
-  }
+pub sized_none : (v : ℕ) → v ≡ 0 → Sized (decimal v) 1 20
+sized_none v e = record { is = sym (length_small v (omega arith)); some = omega arith; few = omega arith }

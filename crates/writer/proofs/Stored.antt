@@ -6,14 +6,10 @@ use Rattle.std.proofs.Math.Seq.{slice, get_or_at}
 use Rattle.meaning.proofs.Truth.{bool_cases}
 use Rattle.rules.specs.Written.{write_clause, write_clauses}
 use Rattle.clauses.specs.Codes.{literal_of}
-use Rattle.clauses.specs.Store.{start_at, Placed, clause_at, clauses_of, Store}
+use Rattle.clauses.specs.Store.{start_at, Placed, clause_at, clauses_of}
 use Rattle.clauses.proofs.Holding.{clauses_length}
 use Rattle.writer.specs.Text.{Room, Formed, Counted, WroteCounted}
 use Rattle.writer.proofs.Texts.{Parts, Going, going_room, going_same, going_on, going_end, room-first, wrote_none}
-
--- A store of clauses is formed as the writer asks.
-pub store_formed : {heads lits : List ℕ} {n used last : ℕ} → Store heads lits n used last → Formed heads lits n
-store_formed s = record { room = s.room; ordered = s.ordered; inside = omega (arith, s.ends, s.fits) }
 
 module _ {heads lits : List ℕ} {n : ℕ} (f : Formed heads lits n) where
   -- The clauses' starts rise.

@@ -22,13 +22,6 @@ pub record Wrote (before : List ℕ) (at : ℕ) (text after : List ℕ) (end : �
   pub ends : end ≡ at + length text
   pub is : after ≡ take at before ++ (text ++ drop end before)
 
--- The digits of the number v, which end at `end`, are written but for the first, which belongs to the place `at`.
-pub record Filled (before : List ℕ) (at v end : ℕ) (after : List ℕ) (first : ℕ) : Type 0 where
-  pub digits : List ℕ
-  pub one : first < 10
-  pub all : decimal v ≡ (48 + first) ∷ digits
-  pub is : after ≡ take (at + 1) before ++ (digits ++ drop end before)
-
 -- The two slices hold n clauses: each begins where the one before ends, and the last ends within the literals.
 pub record Formed (heads lits : List ℕ) (n : ℕ) : Type 0 where
   pub room : RoomFor heads n

@@ -6,29 +6,26 @@
 // Nothing is promised of a store that is not formed as `Formed` says, and nothing is said of whether the clauses' variables
 // are at most `vars`.
 //
-// The turns of the loops are counted. A number of d digits counts as 2d of them where it is written, since `digits_in` and
-// `write_last_digits` make fewer than d turns each, and as d of them where only its length is asked.
+// The turns of the loops are counted. A number of d digits counts as 2d of them where it is written, which is more than the d that
+// `write_digits` makes, and as d of them where only its length is asked.
 #![tactic(auto)]
 
 ghost use Rattle.std.specs.Prelude.{◌≡◌, ◌∷◌, [], map, ◌+◌, ◌*◌, ◌<◌, ◌≤◌, ◌^◌, length};
 ghost use Rattle.rules.specs.Written.{decimal, write_literal, write_clause, write_clauses};
 ghost use Rattle.clauses.specs.Codes.{literal_of};
 ghost use Rattle.clauses.specs.Store.{clauses_of};
-ghost use Rattle.writer.specs.Text.{Sized, Room, Wrote, Filled, Formed, line_start, first_line, formula_of, length_of, WroteCounted, WroteFormula, LineDigits, Summed, Answers};
+ghost use Rattle.writer.specs.Text.{Sized, Room, Wrote, Formed, line_start, first_line, formula_of, length_of, WroteCounted, WroteFormula, LineDigits, Summed, Answers};
 
 use clauses::{Timed, View};
 
-// How many decimal digits a number has: one more than the turns of the loop.
+// How many decimal digits a number has.
 pub fn digits_in(v: u64) -> usize
     ensures { Sized (decimal v) result 20 }
 {
-    let mut rest = v;
-    let mut count: usize = 1;
-    while 10 <= rest {
-        rest /= 10;
-        count += 1;
+    match v.checked_ilog10() {
+        Some(tens) => tens as usize + 1,
+        None => 1,
     }
-    count
 }
 
 // The byte of one digit.
@@ -39,18 +36,16 @@ fn digit(x: u64) -> u8
     b'0' + x as u8
 }
 
-// Writes all digits of a number but the first, from the last one on, so that they end at `end`. What is left of the number is
-// its first digit, which belongs to the place `at`.
-fn write_last_digits(out: &mut [u8], at: usize, v: u64, end: usize) -> u64
-    requires { (end ≡ at + length (decimal v)) × (end ≤ length out.old) }
-    ensures { Filled out.old at v end out.new result }
+// Writes the digits of a number, from the last one on, into a slice that is as long as they are.
+fn write_digits(place: &mut [u8], v: u64)
+    requires { length place.old ≡ length (decimal v) }
+    ensures { place.new ≡ decimal v }
 {
     let mut rest = v;
-    for i in (at + 1..end).rev() {
-        out[i] = digit(rest % 10);
+    for i in (0..place.len()).rev() {
+        place[i] = digit(rest % 10);
         rest /= 10;
     }
-    rest
 }
 
 // Writes one byte.
@@ -68,8 +63,7 @@ pub fn write_number(out: &mut [u8], at: usize, v: u64) -> usize
     ensures { Wrote out.old at (decimal v) out.new result }
 {
     let end = at + digits_in(v);
-    let first = write_last_digits(out, at, v, end);
-    out[at] = digit(first);
+    write_digits(&mut out[at..end], v);
     end
 }
 

@@ -1,12 +1,9 @@
-use Rattle.std.proofs.Common.{arith}
-use Rattle.writer.proofs.Digits.{counting_start, counting_on, counting_end}
+-- `writer::digits_in` meets its contract. Assumes nothing.
+use Rattle.writer.proofs.Digits.{sized_tens, sized_none}
 use Rattle.writer.proofs.digits_in.Goals as goal
 
-pub loop-rest-init : goal.loop-rest-init
-loop-rest-init c = counting_start _ (omega arith)
+pub returns-in-Some : goal.returns-in-Some
+returns-in-Some c = sized_tens _ _ c.in-Some.ensures.power_le c.in-Some.ensures.next_power_gt c.in-Some.ensures.bound
 
-pub loop-rest-preserved : goal.loop-rest-preserved
-loop-rest-preserved c = counting_on c.loop-rest.invariant c.loop-rest-test.true
-
-pub returns : goal.returns
-returns c = counting_end c.loop-rest.invariant c.loop-rest-test.false
+pub returns-in-None : goal.returns-in-None
+returns-in-None c = sized_none _ c.in-None.ensures.none
