@@ -46,8 +46,8 @@ pub fn is_blank(b: u8) -> bool
     b == b' ' || b == b'\t' || b == b'\r' || b == b'\n'
 }
 
-// The place behind the bytes from `from` on that pass the test, up to the first that does not. (Tried: with a `for`,
-// here and in `run`, reading a formula takes a third more instructions.)
+// The place behind the bytes from `from` on that pass the test, up to the first that does not. (Tried: with a `for`
+// here, reading a formula takes 1.45 of the instructions, and 1.03 with one in `run`.)
 fn behind<F: Fn(u8) -> bool>(s: &[u8], from: usize, passes: F) -> usize
     requires { F.IsAlwaysCallable passes }
     ensures { Behind (F.post passes) s.now from result }
