@@ -1,6 +1,7 @@
 // What stands before the clauses: comment lines, and the line `p cnf V C`.
 //
-// Each loop moves on by a byte with each turn, so the turns of a function here are the bytes that it passed.
+// The search for a byte passes one with each turn, so the turns of a function here are the bytes that it passed, and one more for
+// each comment line.
 ghost use Rattle.std.specs.Prelude.{◌≡◌, ◌+◌, ◌<◌, ◌≤◌, length};
 ghost use Rattle.rules.specs.Formula.{count, header};
 ghost use Rattle.rules.specs.Text.{token};
