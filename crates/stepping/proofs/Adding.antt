@@ -1,9 +1,10 @@
 -- Judging an addition, and what an accepted one makes of the store. Assumes nothing.
+use Rattle.std.specs.Prelude.{Ok, Err}
 use Rattle.std.proofs.Common.{ℕ, ◌+◌, ◌-◌, ◌*◌, ◌<◌, ◌≤◌, ◌≡◌, List, [], ◌∷◌, ◌++◌, map, length, get_or, take, drop}
-use Rattle.std.proofs.Common.{refl, sym, ap, ◌∙◌, inl, inr, ⊎_elim, arith, length-drop, get_or-take, length-take-le, take-take}
+use Rattle.std.proofs.Common.{refl, sym, ap, ◌∙◌, inl, inr, ⊎_elim, arith, get_or-take, get_or-drop, length-take-le, take-take}
 use Rattle.std.proofs.Math.Option.{none, some}
 use Rattle.std.proofs.Math.ListN.{length-map}
-use Rattle.std.proofs.Math.Seq.{slice}
+use Rattle.std.proofs.Math.Seq.{slice, length-slice}
 use Rattle.meaning.specs.Meaning.{Clause}
 use Rattle.rules.specs.Steps.{Hint, add}
 use Rattle.rules.specs.Judging.{Live, Ground, State, refused, adds_empty, goes_on, addition_fault, judge}
@@ -12,30 +13,16 @@ use Rattle.clauses.specs.Codes.{literal_of, hint_of}
 use Rattle.clauses.specs.Store.{RoomFor, written, live_of, Holds}
 use Rattle.clauses.proofs.Holding.{holds_front, holds-append}
 use Rattle.clauses.proofs.Numbers.{cut}
+use Rattle.clauses.proofs.Parts.{part_slice}
 use Rattle.deletion.specs.Deleting.{state_of}
 use Rattle.deletion.proofs.Leavings.{dead_append}
-use Rattle.addition.specs.Verdicts.{SaysCase, ground_of}
+use Rattle.addition.specs.Verdicts.{Verdict, SaysCase, ground_of}
 use Rattle.addition.specs.Addition.{Addable as Judgeable, clause_in, all_turns, Judges}
-use Rattle.addition.specs.declared.Verdict.{Verdict}
-use Rattle.addition.specs.declared.Verdict.TheVariants.{Accepted as IsAccepted, Refused as IsRefused, TooShort as IsTooShort}
-use Rattle.stepping.specs.Stepping.{state_at, addition, Accepts, AcceptByCase, AcceptsBy, Addable, Goes, AddCase, Adds}
+use Rattle.addition.specs.declared.Failure.TheVariants.{Refused as IsRefused, TooShort as IsTooShort}
+use Rattle.stepping.specs.Stepping.{state_at, addition, Outcome, AcceptCase, JudgedCase, Accepts, Addable, Goes, AddCase, Adds}
 use Rattle.stepping.specs.declared.Between.{Between}
-use Rattle.stepping.specs.declared.Outcome.{Outcome}
-use Rattle.stepping.specs.declared.Outcome.TheVariants.{On, Verified, Refused, TooShort, Unreadable, Nothing}
-use Rattle.stepping.specs.declared.Refusal.TheVariants.{Addition}
-
--- By the verdict.
-
-pub by_accepted : (v : Verdict) (heads : List ℕ) (b : Between) (id end : ℕ) (heads' : List ℕ) (o : Outcome)
-    → v ≡ IsAccepted → Accepts heads b id end heads' o → AcceptsBy v heads b id end heads' o
-by_accepted v heads b id end heads' o e a = rw e (record { case = a })
-
-pub by_refused : (v : Verdict) (heads : List ℕ) (b : Between) (id end : ℕ) (heads' : List ℕ) (g : _)
-    → v ≡ IsRefused g → AcceptsBy v heads b id end heads' (Refused (Addition g))
-by_refused v heads b id end heads' g e = rw e (record { case = refl })
-
-pub by_short : (v : Verdict) (heads : List ℕ) (b : Between) (id end : ℕ) (heads' : List ℕ) → v ≡ IsTooShort → AcceptsBy v heads b id end heads' TooShort
-by_short v heads b id end heads' e = rw e (record { case = refl })
+use Rattle.stepping.specs.declared.Progress.TheVariants.{On, Verified, Nothing}
+use Rattle.stepping.specs.declared.Failure.TheVariants.{Refused, TooShort, Unreadable}
 
 -- What the judgement of an addition comes to.
 
@@ -53,6 +40,9 @@ judge_more : (s : State) (n : ℕ) (k : Clause) (hs : List Hint) → addition_fa
 unfolding judge
 judge_more s n [] hs e l = absurd (omega arith)
 judge_more s n (x ∷ k) hs e l = rw (e, judge)
+
+zero_plus : (x : ℕ) → 0 + x ≡ x
+zero_plus x = omega arith
 
 -- The literals up to `end` are all that judging needs.
 
@@ -73,8 +63,15 @@ module _ (heads lits hints marks : List ℕ) (b : Between) (id end many : ℕ) (
   known_front : (i : ℕ) → i < end → get_or (take end lits) i 0 < length marks
   known_front i h = rw (get_or-take end lits i 0 h) (known_all i h)
 
-  pub addable_front : Judgeable heads (take end lits) b.n b.used end marks
-  addable_front = record {
+  -- The literals of the clause.
+  own-is : take (end - b.used) (drop b.used lits) ≡ slice b.used end lits
+  own-is = part_slice lits b.used end a.forward a.inside
+
+  own_long : length (slice b.used end lits) ≡ end - b.used
+  own_long = length-slice b.used end lits a.inside
+
+  pub addable_front : Judgeable heads (take end lits) b.n (take (end - b.used) (drop b.used lits)) marks
+  addable_front = rw own-is (record {
     ready = record {
       used = b.used;
       last = b.last;
@@ -83,14 +80,14 @@ module _ (heads lits hints marks : List ℕ) (b : Between) (id end many : ℕ) (
       paired = a.keeps.paired;
     };
     shows = a.keeps.clear;
-    clausal = record { forward = a.forward; inside = rw front_long (omega arith); known = λ i g h. known_front i h };
-  }
+    known = record { below = λ i h. rw (get_or-drop b.used (take end lits) i 0) (known_front (b.used + i) (omega (arith, rw own_long at h))) };
+  })
 
-  clause_front : clause_in (take end lits) b.used end ≡ clause_in lits b.used end
-  clause_front = ap (λ (xs : List ℕ). map literal_of (drop b.used xs)) (take-take end end lits (omega arith))
+  hints-long : length (take many hints) ≡ many
+  hints-long = length-take-le many hints a.few
 
   clause-long : length (clause_in lits b.used end) ≡ end - b.used
-  clause-long = length-map (slice b.used end lits) literal_of ∙ (length-drop b.used (take end lits) ∙ rw front_long)
+  clause-long = length-map (slice b.used end lits) literal_of ∙ own_long
 
   -- The clause becomes live.
   module _ (heads' marks' : List ℕ) (back : marks' ≡ marks) (fault : addition_fault (live_of heads lits b.n) b.last id (clause_in lits b.used end) (map hint_of (take many hints)) ≡ none)
@@ -128,29 +125,29 @@ module _ (heads lits hints marks : List ℕ) (b : Between) (id end many : ℕ) (
     }
 
   -- All verdicts.
-  module _ (tape marks' tape' : List ℕ) (v : Verdict) (turns : ℕ)
-      (j : Judges (live_of heads (take end lits) b.n) b.n (take end lits) b.used end hints many b.last id marks tape marks' tape' v turns)
-      (heads' : List ℕ) (o : Outcome) (y : AcceptsBy v heads b id end heads' o) where
+  module _ (tape marks' tape' : List ℕ) (v : Verdict) (t' turns : ℕ)
+      (j : Judges (live_of heads (take end lits) b.n) b.n (take end lits) (take (end - b.used) (drop b.used lits)) (take many hints) b.last id marks tape 0 marks' tape' v t' turns)
+      (heads' : List ℕ) (o : Outcome) (y : Accepts v heads b id end heads' o) where
     says : SaysCase (addition_fault (live_of heads lits b.n) b.last id (clause_in lits b.used end) (map hint_of (take many hints))) (length tape) ((end - b.used) + many + end) v
-    says = rw (front_holds.same, clause_front, front_long) at j.says.case
+    says = rw (front_holds.same, own-is, own_long, hints-long, front_long, zero_plus ((end - b.used) + many + end)) at j.says.case
 
     accepted : addition_fault (live_of heads lits b.n) b.last id (clause_in lits b.used end) (map hint_of (take many hints)) ≡ none
-        → (q : Outcome) → Accepts heads b id end heads' q → AddCase (state_at heads lits b) (addition lits hints b id end many) heads tape b end many heads' lits marks' q
-    accepted f (On b') x = rw x.case.is (addition_goes heads' marks' j.back f x.case.more x.case.room x.case.after)
-    accepted f Verified x =
+        → (q : Outcome) → AcceptCase heads b id end heads' q → AddCase (state_at heads lits b) (addition lits hints b id end many) heads tape b end many heads' lits marks' q
+    accepted f (Ok (On b')) x = rw x.is (addition_goes heads' marks' j.back f x.more x.room x.after)
+    accepted f (Ok Verified) x =
         judge_empty (state_at heads lits b) id (clause_in lits b.used end) (map hint_of (take many hints)) f
-        (rw clause-long (let e : end ≤ b.used = x.case in omega arith))
-    accepted f (Refused g) x = absurd x.case
-    accepted f TooShort x = inl x.case
-    accepted f Unreadable x = absurd x.case
-    accepted f Nothing x = absurd x.case
+        (rw clause-long (let e : end ≤ b.used = x in omega arith))
+    accepted f (Ok Nothing) x = absurd x
+    accepted f (Err (Refused g)) x = absurd x
+    accepted f (Err TooShort) x = inl x
+    accepted f (Err Unreadable) x = absurd x
 
     by_verdict : (w : Verdict)
         → SaysCase (addition_fault (live_of heads lits b.n) b.last id (clause_in lits b.used end) (map hint_of (take many hints))) (length tape) ((end - b.used) + many + end) w
-        → AcceptByCase w heads b id end heads' o → AddCase (state_at heads lits b) (addition lits hints b id end many) heads tape b end many heads' lits marks' o
-    by_verdict IsAccepted f x = accepted f o x
-    by_verdict (IsRefused g) f x = rw x (judge_fault (state_at heads lits b) id (clause_in lits b.used end) (map hint_of (take many hints)) (ground_of g) f)
-    by_verdict IsTooShort f x = rw x (inr f)
+        → JudgedCase w heads b id end heads' o → AddCase (state_at heads lits b) (addition lits hints b id end many) heads tape b end many heads' lits marks' o
+    by_verdict (Ok done) f x = accepted f o x
+    by_verdict (Err (IsRefused g)) f x = rw x (judge_fault (state_at heads lits b) id (clause_in lits b.used end) (map hint_of (take many hints)) (ground_of g) f)
+    by_verdict (Err IsTooShort) f x = rw x (inr f)
 
     pub addition_adds : Adds heads lits hints marks tape b id end many heads' marks' o × (turns ≤ all_turns b.n end many)
-    addition_adds = (record { case = by_verdict v says y.case }, rw front_long at j.bounded)
+    addition_adds = (record { case = by_verdict v says y.case }, omega (arith, rw (own-is, front_long, own_long, hints-long) at j.bounded, a.forward))

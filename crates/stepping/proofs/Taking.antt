@@ -1,5 +1,6 @@
 -- Taking one step: what was read is judged, and what that comes to for the run. Assumes nothing.
-use Rattle.std.proofs.Common.{ℕ, ◌+◌, ◌-◌, ◌*◌, ◌^◌, ◌<◌, ◌≤◌, ◌≡◌, refl, sym, ap, ◌∙◌, inl, inr, ⊎_elim, List, map, arith, add-mul, mul_comm, mul-le-mul, length, get_or, take, drop, length-drop}
+use Rattle.std.specs.Prelude.{Result, Ok, Err}
+use Rattle.std.proofs.Common.{ℕ, ◌+◌, ◌-◌, ◌*◌, ◌^◌, ◌<◌, ◌≤◌, ◌≡◌, refl, sym, ap, ◌∙◌, inl, inr, ⊎_elim, List, map, arith, add-mul, mul_comm, mul-le-mul, length, get_or, take, drop, length-drop, length-take-le}
 use Rattle.std.proofs.Math.Option.{some}
 use Rattle.rules.specs.Text.{tokens}
 use Rattle.rules.specs.Steps.{Step, add, delete}
@@ -11,15 +12,19 @@ use Rattle.clauses.proofs.Holding.{holds_front}
 use Rattle.deletion.specs.Deleting.{state_of}
 use Rattle.formula.specs.Body.{Placed}
 use Rattle.formula.proofs.Fillings.{placed_front, placed_length, placed_slice, placed_below}
-use Rattle.steps.specs.Reading.{StepAdded, StepDeleted, StepNone, StepStopped, StepBad, StepShort, ReadsStep}
-use Rattle.steps.specs.declared.StepRead.{StepRead}
-use Rattle.steps.specs.declared.StepRead.TheVariants.{Addition, Deletion, Nothing as NoStep, Unreadable as BadStep, TooShort as ShortStep}
+use Rattle.steps.specs.Reading.{StepAdded, StepDeleted, StepNone, StepStopped, StepShort, FaultCase, ReadsStep}
+use Rattle.steps.specs.declared.Step.{Step as ReadStep}
+use Rattle.steps.specs.declared.Step.TheVariants.{Addition, Deletion, Nothing as NoStep}
+use Rattle.steps.specs.declared.Stopped.{Stopped}
+use Rattle.formula.specs.declared.Fault.{Fault}
+use Rattle.formula.specs.declared.Fault.TheVariants.{Unreadable as NotReadable, TooShort as NoRoom}
 use Rattle.addition.specs.Verdicts.{costs}
 use Rattle.addition.specs.Addition.{all_turns}
-use Rattle.stepping.specs.Stepping.{state_at, addition, deletion, Tight, Keeps, Spent, Addable, Adds, AddShort, Deletes, StepIs, rate, Lacks, LastTurns, TakeCase, TakesStep}
+use Rattle.stepping.specs.Stepping.{not_read, state_at, addition, deletion, Tight, Keeps, Spent, Addable, Adds, AddShort, Deletes, Outcome, StepIs, rate, Lacks, LastTurns, TakeCase, TakesStep}
 use Rattle.stepping.specs.declared.Between.{Between}
-use Rattle.stepping.specs.declared.Outcome.{Outcome}
-use Rattle.stepping.specs.declared.Outcome.TheVariants.{On, Verified, Refused, TooShort, Unreadable, Nothing}
+use Rattle.stepping.specs.declared.Progress.TheVariants.{On, Verified, Nothing}
+use Rattle.stepping.specs.declared.Failure.{Failure}
+use Rattle.stepping.specs.declared.Failure.TheVariants.{Refused, TooShort, Unreadable}
 
 -- Turns
 
@@ -95,10 +100,10 @@ module _ (proof : List ℕ) (at : ℕ) (b : Between) (heads lits hints marks tap
 
   -- An addition
 
-  module _ (lits' hints' : List ℕ) (r : StepRead) (rd : ReadsStep (length marks) proof at b.used lits hints lits' hints' r)
-      (id end many next : ℕ) (e : r ≡ Addition id end many next) where
+  module _ (lits' hints' : List ℕ) (r : Result ReadStep Stopped) (rd : ReadsStep (length marks) proof at b.used lits hints lits' hints' r)
+      (step : ReadStep) (f : r ≡ Ok step) (id end many next : ℕ) (g : step ≡ Addition id end many next) where
     a : StepAdded (length marks) proof at b.used lits hints lits' hints' id end many next
-    a = rw e at rd.case
+    a = rw (f, g) at rd.case
 
     pub addition_later : at < next
     addition_later = a.later
@@ -136,6 +141,9 @@ module _ (proof : List ℕ) (at : ℕ) (b : Between) (heads lits hints marks tap
     codes_are : (end - b.used) + many ≡ length a.new + length a.told
     codes_are = omega (arith, a.placed.count, a.noted.count)
 
+    pub addition_fits : length proof < 2 ^ 63 → (end - b.used) + many < 2 ^ 64
+    addition_fits h = omega (arith, codes_are, a.turns, tokens_few (drop at proof), length-drop at proof)
+
     module _ (heads' marks' : List ℕ) (next' turns : ℕ) (en : next' ≡ next) (s : Spent (next - at) ((end - b.used) + many) (all_turns b.n end many) turns)
         (short : length proof < 2 ^ 63) where
       split : length (tokens (drop next proof)) + ((end - b.used) + many + 3) ≡ length (tokens (drop at proof))
@@ -162,7 +170,7 @@ module _ (proof : List ℕ) (at : ℕ) (b : Between) (heads lits hints marks tap
       went : (o : Outcome) → Adds heads lits' hints' marks tape b id end many heads' marks' o
           → TakeCase proof at b (state_at heads lits b) heads lits hints tape (length marks) heads' lits' marks' next turns o
       unfolding has
-      went (On b') x = record {
+      went (Ok (On b')) x = record {
         has = has;
         is = ap (λ (q : State). judge q (addition lits' hints' b id end many)) (sym (read_state lits' a.new end a.placed)) ∙ x.case.is;
         keeps = x.case.keeps;
@@ -172,23 +180,23 @@ module _ (proof : List ℕ) (at : ℕ) (b : Between) (heads lits hints marks tap
         at_least = omega (arith, split, spent_tokens (next - at) ((end - b.used) + many) (all_turns b.n end many) turns s few_tokens);
         at_most = step_most proof at next b ((end - b.used) + many) turns a.later a.within split cost;
       }
-      went Verified x = (
+      went (Ok Verified) x = (
         record {
           last = record { rest = tokens (drop next proof); has = has };
           is = ap (λ (q : State). judge q (addition lits' hints' b id end many)) (sym (read_state lits' a.new end a.placed)) ∙ x.case;
         },
         last,
       )
-      went (Refused g) x = (
+      went (Err (Refused g)) x = (
         record {
           last = record { rest = tokens (drop next proof); has = has };
           is = ap (λ (q : State). judge q (addition lits' hints' b id end many)) (sym (read_state lits' a.new end a.placed)) ∙ x.case;
         },
         last,
       )
-      went TooShort x = (lacks x.case, last)
-      went Unreadable x = absurd x.case
-      went Nothing x = absurd x.case
+      went (Err TooShort) x = (lacks x.case, last)
+      went (Err Unreadable) x = absurd x.case
+      went (Ok Nothing) x = absurd x.case
 
       pub addition-taken : (o : Outcome) → Adds heads lits' hints' marks tape b id end many heads' marks' o
           → TakesStep proof at b heads lits hints marks tape heads' lits' marks' o next' turns
@@ -197,10 +205,10 @@ module _ (proof : List ℕ) (at : ℕ) (b : Between) (heads lits hints marks tap
 
   -- A deletion
 
-  module _ (lits' hints' : List ℕ) (r : StepRead) (rd : ReadsStep (length marks) proof at b.used lits hints lits' hints' r)
-      (many next : ℕ) (e : r ≡ Deletion many next) where
+  module _ (lits' hints' : List ℕ) (r : Result ReadStep Stopped) (rd : ReadsStep (length marks) proof at b.used lits hints lits' hints' r)
+      (step : ReadStep) (f : r ≡ Ok step) (many next : ℕ) (g : step ≡ Deletion many next) where
     d : StepDeleted proof at lits hints lits' hints' many next
-    d = rw e at rd.case
+    d = rw (f, g) at rd.case
 
     pub deletion_later : at < next
     deletion_later = d.later
@@ -211,14 +219,17 @@ module _ (proof : List ℕ) (at : ℕ) (b : Between) (heads lits hints marks tap
     pub deletion_few : many ≤ length hints'
     deletion_few = rw (placed_length hints 0 d.told hints' many (omega arith) d.noted) d.noted.room
 
-    gone_step : deletion hints' many ≡ delete (map half d.told)
-    gone_step = ap (λ (xs : List ℕ). delete (map half xs)) (placed_slice hints 0 d.told hints' many (omega arith) d.noted)
+    gone_step : deletion (take many hints') ≡ delete (map half d.told)
+    gone_step = ap deletion (placed_slice hints 0 d.told hints' many (omega arith) d.noted)
 
     had : StepIs (tokens (drop at proof)) (tokens (drop next proof))
-    had = record { step = deletion hints' many; is = d.is ∙ ap (λ (s : Step). some (s, tokens (drop next proof))) (sym gone_step) }
+    had = record { step = deletion (take many hints'); is = d.is ∙ ap (λ (s : Step). some (s, tokens (drop next proof))) (sym gone_step) }
 
-    module _ (heads' lits'' : List ℕ) (next' turns : ℕ) (en : next' ≡ next) (s : Spent (next - at) many (64 * many + 2 * (b.n + b.used)) turns)
+    module _ (heads' lits'' : List ℕ) (next' turns : ℕ) (en : next' ≡ next) (s₀ : Spent (next - at) many (64 * length (take many hints') + 2 * (b.n + b.used)) turns)
         (short : length proof < 2 ^ 63) where
+      s : Spent (next - at) many (64 * many + 2 * (b.n + b.used)) turns
+      s = rw (length-take-le many hints' deletion_few) at s₀
+
       split_ids : length (tokens (drop next proof)) + (many + 3) ≡ length (tokens (drop at proof))
       split_ids = omega (arith, d.turns, d.noted.count)
 
@@ -231,12 +242,12 @@ module _ (proof : List ℕ) (at : ℕ) (b : Between) (heads lits hints marks tap
       same_state : state_at heads lits' b ≡ state_at heads lits b
       same_state = ap (λ (xs : List ℕ). state_at heads xs b) d.same
 
-      left : (o : Outcome) → Deletes heads lits' hints' b many heads' lits'' o
+      left : (o : Outcome) → Deletes heads lits' (take many hints') b heads' lits'' o
           → TakeCase proof at b (state_at heads lits b) heads lits hints tape (length marks) heads' lits'' marks next turns o
       unfolding had
-      left (On b') x = record {
+      left (Ok (On b')) x = record {
         has = had;
-        is = ap (λ (q : State). judge q (deletion hints' many)) (sym same_state) ∙ x.case.is;
+        is = ap (λ (q : State). judge q (deletion (take many hints'))) (sym same_state) ∙ x.case.is;
         keeps = record {
           tight = x.case.tight;
           known = x.case.below (length marks) (λ i h. rw d.same (k.known i h));
@@ -249,64 +260,61 @@ module _ (proof : List ℕ) (at : ℕ) (b : Between) (heads lits hints marks tap
         at_least = omega (arith, split_ids, spent_tokens (next - at) many (64 * many + 2 * (b.n + b.used)) turns s few_ids);
         at_most = step_most proof at next b many turns d.later d.within split_ids cost-ids;
       }
-      left Verified x = absurd x.case
-      left (Refused g) x = (
+      left (Ok Verified) x = absurd x.case
+      left (Err (Refused g)) x = (
         record {
           last = record { rest = tokens (drop next proof); has = had };
-          is = ap (λ (q : State). judge q (deletion hints' many)) (sym same_state) ∙ x.case;
+          is = ap (λ (q : State). judge q (deletion (take many hints'))) (sym same_state) ∙ x.case;
         },
         step_last proof at next b many turns d.later d.within split_ids cost-ids,
       )
-      left TooShort x = absurd x.case
-      left Unreadable x = absurd x.case
-      left Nothing x = absurd x.case
+      left (Err TooShort) x = absurd x.case
+      left (Err Unreadable) x = absurd x.case
+      left (Ok Nothing) x = absurd x.case
 
-      pub deletion-taken : (o : Outcome) → Deletes heads lits' hints' b many heads' lits'' o
+      pub deletion-taken : (o : Outcome) → Deletes heads lits' (take many hints') b heads' lits'' o
           → TakesStep proof at b heads lits hints marks tape heads' lits'' marks o next' turns
       deletion-taken o x =
           rw en (record { case = left o x; counted = spent_one (next - at) many (64 * many + 2 * (b.n + b.used)) turns s })
 
   -- No step
 
-  module _ (lits' hints' : List ℕ) (r : StepRead) (rd : ReadsStep (length marks) proof at b.used lits hints lits' hints' r) where
-    pub nothing_taken : (next : ℕ) → r ≡ NoStep next → (heads' lits'' marks' : List ℕ) (o : Outcome) (place turns : ℕ) → o ≡ Nothing
+  module _ (lits' hints' : List ℕ) (r : Result ReadStep Stopped) (rd : ReadsStep (length marks) proof at b.used lits hints lits' hints' r) where
+    pub nothing_taken : (step : ReadStep) → r ≡ Ok step → (next : ℕ) → step ≡ NoStep next → (heads' lits'' marks' : List ℕ) (o : Outcome) (place turns : ℕ) → o ≡ Ok Nothing
         → Spent (length proof - at) 0 (length proof - at) turns → TakesStep proof at b heads lits hints marks tape heads' lits'' marks' o place turns
-    nothing_taken next e heads' lits'' marks' o place turns eo s =
-        let x : StepNone proof at lits hints lits' hints' next = rw e at rd.case in
+    nothing_taken step f next g heads' lits'' marks' o place turns eo s =
+        let x : StepNone proof at lits hints lits' hints' next = rw (f, g) at rd.case in
         rw eo
         (record {
           case = (x.is, stopped_last proof at b 0 turns (omega arith) s);
           counted = spent_one (length proof - at) 0 (length proof - at) turns s;
         })
 
-    module _ (stop end many : ℕ) where
-      pub stopped_forward : StepStopped proof at b.used lits hints lits' hints' stop end many → b.used ≤ end
-      stopped_forward x = omega (arith, x.placed.count)
+    module _ (stop : Stopped) (e : r ≡ Err stop) where
+      abbrev Stops : Type 0
+      Stops = StepStopped proof at b.used lits hints lits' hints' stop.at stop.end stop.many
 
-      pub stopped_fits : StepStopped proof at b.used lits hints lits' hints' stop end many
-          → length lits * 4 < 2 ^ 63 → length hints * 4 < 2 ^ 63 → (end - b.used) + many < 2 ^ 64
-      stopped_fits x h l = omega (arith, x.placed.room, x.noted.room)
+      case-at : FaultCase (length marks) proof at b.used lits hints lits' hints' stop.fault stop.at stop.end stop.many
+      case-at = rw e at rd.case
 
-      stopped_codes : StepStopped proof at b.used lits hints lits' hints' stop end many → (end - b.used) + many ≤ length (tokens (drop at proof))
-      stopped_codes x = omega (arith, x.placed.count, x.noted.count, x.at_least)
+      stopped-by : (fault : Fault) → FaultCase (length marks) proof at b.used lits hints lits' hints' fault stop.at stop.end stop.many → Stops
+      stopped-by NotReadable x = x.stopped
+      stopped-by NoRoom x = x.stopped
 
-      pub bad_stopped : r ≡ BadStep stop end many → StepStopped proof at b.used lits hints lits' hints' stop end many
-      bad_stopped e = let x : StepBad proof at b.used lits hints lits' hints' stop end many = rw e at rd.case in x.stopped
+      stopped : Stops
+      stopped = stopped-by stop.fault case-at
 
-      pub bad_taken : r ≡ BadStep stop end many → (heads' lits'' marks' : List ℕ) (o : Outcome) (place turns : ℕ) → o ≡ Unreadable
-          → Spent (length proof - at) ((end - b.used) + many) (length proof - at) turns → TakesStep proof at b heads lits hints marks tape heads' lits'' marks' o place turns
-      bad_taken e heads' lits'' marks' o place turns eo s =
-          let x : StepBad proof at b.used lits hints lits' hints' stop end many = rw e at rd.case in
-          rw eo
-          (record {
-            case = (record { is = x.is; left = x.left }, stopped_last proof at b ((end - b.used) + many) turns (stopped_codes x.stopped) s);
-            counted = spent_one (length proof - at) ((end - b.used) + many) (length proof - at) turns s;
-          })
+      pub stopped_forward : b.used ≤ stop.end
+      stopped_forward = omega (arith, stopped.placed.count)
 
-      pub short_stopped : r ≡ ShortStep stop end many → StepStopped proof at b.used lits hints lits' hints' stop end many
-      short_stopped e = let x : StepShort (length marks) proof at b.used lits hints lits' hints' stop end many = rw e at rd.case in x.stopped
+      stopped_codes : (stop.end - b.used) + stop.many ≤ length (tokens (drop at proof))
+      stopped_codes = omega (arith, stopped.placed.count, stopped.noted.count, stopped.at_least)
 
-      short_lacks : StepShort (length marks) proof at b.used lits hints lits' hints' stop end many → Lacks heads lits hints tape (length marks) b.n b.used (tokens (drop at proof))
+      pub stopped_fits : length proof < 2 ^ 63 → (stop.end - b.used) + stop.many < 2 ^ 64
+      stopped_fits h = omega (arith, stopped_codes, tokens_few (drop at proof), length-drop at proof)
+
+      short_lacks : StepShort (length marks) proof at b.used lits hints lits' hints' stop.at stop.end stop.many
+          → Lacks heads lits hints tape (length marks) b.n b.used (tokens (drop at proof))
       short_lacks x = record {
         codes = length x.stopped.new + length x.stopped.told;
         step = x.begun;
@@ -317,12 +325,17 @@ module _ (proof : List ℕ) (at : ℕ) (b : Between) (heads lits hints marks tap
             x.short;
       }
 
-      pub short_taken : r ≡ ShortStep stop end many → (heads' lits'' marks' : List ℕ) (o : Outcome) (place turns : ℕ) → o ≡ TooShort
-          → Spent (length proof - at) ((end - b.used) + many) (length proof - at) turns → TakesStep proof at b heads lits hints marks tape heads' lits'' marks' o place turns
-      short_taken e heads' lits'' marks' o place turns eo s =
-          let x : StepShort (length marks) proof at b.used lits hints lits' hints' stop end many = rw e at rd.case in
-          rw eo
+      taken-by : (heads' lits'' marks' : List ℕ) (place turns : ℕ) → LastTurns proof at b turns → (fault : Fault)
+          → FaultCase (length marks) proof at b.used lits hints lits' hints' fault stop.at stop.end stop.many
+          → TakeCase proof at b (state_at heads lits b) heads lits hints tape (length marks) heads' lits'' marks' place turns (Err (not_read fault))
+      taken-by heads' lits'' marks' place turns last NotReadable x = (record { is = x.is; left = x.left }, last)
+      taken-by heads' lits'' marks' place turns last NoRoom x = (short_lacks x, last)
+
+      pub stopped_taken : (heads' lits'' marks' : List ℕ) (o : Outcome) (why : Failure) (place turns : ℕ) → o ≡ Err why → why ≡ not_read stop.fault
+          → Spent (length proof - at) ((stop.end - b.used) + stop.many) (length proof - at) turns → TakesStep proof at b heads lits hints marks tape heads' lits'' marks' o place turns
+      stopped_taken heads' lits'' marks' o why place turns eo ew s =
+          rw (eo, ew)
           (record {
-            case = (short_lacks x, stopped_last proof at b ((end - b.used) + many) turns (stopped_codes x.stopped) s);
-            counted = spent_one (length proof - at) ((end - b.used) + many) (length proof - at) turns s;
+            case = taken-by heads' lits'' marks' place turns (stopped_last proof at b ((stop.end - b.used) + stop.many) turns stopped_codes s) stop.fault case-at;
+            counted = spent_one (length proof - at) ((stop.end - b.used) + stop.many) (length proof - at) turns s;
           })

@@ -1,6 +1,6 @@
 -- What taking one step of a proof comes to, in terms of document 01's `read_step` and `judge`, and what is known between two
 -- steps.
-use Rattle.std.specs.Prelude.{ℕ, ◌+◌, ◌-◌, ◌*◌, ◌^◌, ◌<◌, ◌≤◌, ◌≡◌, ◌⊎◌, List, [], map, length, get_or, take, drop}
+use Rattle.std.specs.Prelude.{ℕ, ◌+◌, ◌-◌, ◌*◌, ◌^◌, ◌<◌, ◌≤◌, ◌≡◌, ◌⊎◌, Result, Ok, Err, List, [], map, length, get_or, take, drop}
 use Rattle.std.proofs.Math.Option.{none, some}
 use Rattle.rules.specs.Text.{Token, tokens}
 use Rattle.rules.specs.Steps.{Step, add, delete, read_step}
@@ -11,20 +11,47 @@ use Rattle.clauses.specs.Store.{RoomFor, written, live_of, Store}
 use Rattle.assignment.specs.Marks.{Shows, Paired}
 use Rattle.deletion.specs.Deleting.{dead_of, state_of}
 use Rattle.steps.specs.Reading.{BeginsStep, LargeIn}
-use Rattle.addition.specs.Verdicts.{ground_of}
+use Rattle.addition.specs.Verdicts.{Verdict, ground_of}
 use Rattle.addition.specs.Addition.{clause_in}
-use Rattle.addition.specs.declared.Verdict.{Verdict}
-use Rattle.addition.specs.declared.Verdict.TheVariants.{Accepted as IsAccepted, Refused as IsRefused, TooShort as IsTooShort}
+use Rattle.addition.specs.declared.Failure.{Failure as NotAccepted}
+use Rattle.addition.specs.declared.Failure.TheVariants.{Refused as IsRefused, TooShort as IsTooShort}
+use Rattle.formula.specs.declared.Fault.{Fault}
+use Rattle.formula.specs.declared.Fault.TheVariants.{Unreadable as NotReadable, TooShort as NoRoom}
 use Rattle.stepping.specs.declared.Between.{Between}
 use Rattle.stepping.specs.declared.Refusal.{Refusal}
 use Rattle.stepping.specs.declared.Refusal.TheVariants.{Addition, Deletion}
-use Rattle.stepping.specs.declared.Outcome.{Outcome}
-use Rattle.stepping.specs.declared.Outcome.TheVariants.{On, Verified, Refused, TooShort, Unreadable, Nothing}
+use Rattle.stepping.specs.declared.Progress.{Progress}
+use Rattle.stepping.specs.declared.Progress.TheVariants.{On, Verified, Nothing}
+use Rattle.stepping.specs.declared.Failure.{Failure}
+use Rattle.stepping.specs.declared.Failure.TheVariants.{Refused, TooShort, Unreadable}
+use Rattle.stepping.specs.declared.Bench.{Bench}
+
+-- What a step comes to.
+abbrev pub Outcome : Type 0
+Outcome = Result Progress Failure
+
+-- What was lent is as long as it was.
+pub record Lent (w w' : Bench) : Type 0 where
+  pub heads : length w'.heads.now ≡ length w.heads.now
+  pub lits : length w'.lits.now ≡ length w.lits.now
+  pub hints : length w'.hints.now ≡ length w.hints.now
+  pub guess : length w'.guess.now ≡ length w.guess.now
+  pub marks : length w'.assignment.marks.now ≡ length w.assignment.marks.now
+  pub tape : length w'.assignment.tape.now ≡ length w.assignment.tape.now
 
 -- The ground of a refusal, in the document's terms.
 abbrev pub refusal_of : Refusal → Ground
 refusal_of (Addition g) = ground_of g
 refusal_of (Deletion id) = deletion_not_live id
+
+-- Why a step is not taken whose addition is not accepted; that was not read.
+abbrev pub failure_of : NotAccepted → Failure
+failure_of (IsRefused g) = Refused (Addition g)
+failure_of IsTooShort = TooShort
+
+abbrev pub not_read : Fault → Failure
+not_read NotReadable = Unreadable
+not_read NoRoom = TooShort
 
 -- Between two steps
 
@@ -71,24 +98,20 @@ pub record NoHead (heads : List ℕ) (b : Between) (end : ℕ) : Type 0 where
   pub short : length heads ≤ 3 * b.n + 5
 
 abbrev pub AcceptCase : List ℕ → Between → ℕ → ℕ → List ℕ → Outcome → Type 0
-AcceptCase heads b id end heads' (On b') = Accepted heads b id end heads' b'
-AcceptCase heads b id end heads' Verified = end ≤ b.used
-AcceptCase heads b id end heads' (Refused g) = ⊥
-AcceptCase heads b id end heads' TooShort = NoHead heads b end
-AcceptCase heads b id end heads' Unreadable = ⊥
-AcceptCase heads b id end heads' Nothing = ⊥
-
-pub record Accepts (heads : List ℕ) (b : Between) (id end : ℕ) (heads' : List ℕ) (o : Outcome) : Type 0 where
-  pub case : AcceptCase heads b id end heads' o
+AcceptCase heads b id end heads' (Ok (On b')) = Accepted heads b id end heads' b'
+AcceptCase heads b id end heads' (Ok Verified) = end ≤ b.used
+AcceptCase heads b id end heads' (Ok Nothing) = ⊥
+AcceptCase heads b id end heads' (Err (Refused g)) = ⊥
+AcceptCase heads b id end heads' (Err TooShort) = NoHead heads b end
+AcceptCase heads b id end heads' (Err Unreadable) = ⊥
 
 -- The same, by the verdict.
-abbrev pub AcceptByCase : Verdict → List ℕ → Between → ℕ → ℕ → List ℕ → Outcome → Type 0
-AcceptByCase IsAccepted heads b id end heads' o = Accepts heads b id end heads' o
-AcceptByCase (IsRefused g) heads b id end heads' o = o ≡ Refused (Addition g)
-AcceptByCase IsTooShort heads b id end heads' o = o ≡ TooShort
+abbrev pub JudgedCase : Verdict → List ℕ → Between → ℕ → ℕ → List ℕ → Outcome → Type 0
+JudgedCase (Ok done) heads b id end heads' o = AcceptCase heads b id end heads' o
+JudgedCase (Err why) heads b id end heads' o = o ≡ Err (failure_of why)
 
-pub record AcceptsBy (v : Verdict) (heads : List ℕ) (b : Between) (id end : ℕ) (heads' : List ℕ) (o : Outcome) : Type 0 where
-  pub case : AcceptByCase v heads b id end heads' o
+pub record Accepts (v : Verdict) (heads : List ℕ) (b : Between) (id end : ℕ) (heads' : List ℕ) (o : Outcome) : Type 0 where
+  pub case : JudgedCase v heads b id end heads' o
 
 -- What judging an addition asks for: its literals lie behind those of the store, and each has a mark.
 pub record Addable (heads lits hints marks : List ℕ) (b : Between) (id end many : ℕ) : Type 0 where
@@ -114,12 +137,12 @@ abbrev pub AddShort : List ℕ → List ℕ → Between → ℕ → ℕ → Type
 AddShort heads tape b end many = NoHead heads b end ⊎ (length tape < (end - b.used) + many + end)
 
 abbrev pub AddCase : State → Step → List ℕ → List ℕ → Between → ℕ → ℕ → List ℕ → List ℕ → List ℕ → Outcome → Type 0
-AddCase s step heads tape b end many heads' lits marks' (On b') = Goes s step heads' lits marks' (b.n + end + 1) b'
-AddCase s step heads tape b end many heads' lits marks' Verified = judge s step ≡ adds_empty
-AddCase s step heads tape b end many heads' lits marks' (Refused g) = judge s step ≡ refused (refusal_of g)
-AddCase s step heads tape b end many heads' lits marks' TooShort = AddShort heads tape b end many
-AddCase s step heads tape b end many heads' lits marks' Unreadable = ⊥
-AddCase s step heads tape b end many heads' lits marks' Nothing = ⊥
+AddCase s step heads tape b end many heads' lits marks' (Ok (On b')) = Goes s step heads' lits marks' (b.n + end + 1) b'
+AddCase s step heads tape b end many heads' lits marks' (Ok Verified) = judge s step ≡ adds_empty
+AddCase s step heads tape b end many heads' lits marks' (Ok Nothing) = ⊥
+AddCase s step heads tape b end many heads' lits marks' (Err (Refused g)) = judge s step ≡ refused (refusal_of g)
+AddCase s step heads tape b end many heads' lits marks' (Err TooShort) = AddShort heads tape b end many
+AddCase s step heads tape b end many heads' lits marks' (Err Unreadable) = ⊥
 
 pub record Adds (heads lits hints marks tape : List ℕ) (b : Between) (id end many : ℕ) (heads' marks' : List ℕ) (o : Outcome) : Type 0 where
   pub case : AddCase (state_at heads lits b) (addition lits hints b id end many) heads tape b end many heads' lits marks' o
@@ -134,25 +157,9 @@ pub record GivesBack (heads lits : List ℕ) (b : Between) (heads' lits' : List 
   pub few : b'.n + b'.used ≤ b.n + b.used
   pub below : (m : ℕ) → ((i : ℕ) → i < b.used → get_or lits i 0 < m) → (i : ℕ) → i < b'.used → get_or lits' i 0 < m
 
--- Clauses that take so much were deleted, besides those that are known of.
-pub record MoreDead (heads lits : List ℕ) (b : Between) (more : ℕ) : Type 0 where
-  pub store : Store heads lits b.n b.used b.last
-  pub counted : dead_of heads b.n ≡ b.dead + more
-
-abbrev pub BackCase : List ℕ → List ℕ → Between → List ℕ → List ℕ → Outcome → Type 0
-BackCase heads lits b heads' lits' (On b') = GivesBack heads lits b heads' lits' b'
-BackCase heads lits b heads' lits' Verified = ⊥
-BackCase heads lits b heads' lits' (Refused g) = ⊥
-BackCase heads lits b heads' lits' TooShort = ⊥
-BackCase heads lits b heads' lits' Unreadable = ⊥
-BackCase heads lits b heads' lits' Nothing = ⊥
-
-pub record GoesBack (heads lits : List ℕ) (b : Between) (heads' lits' : List ℕ) (o : Outcome) : Type 0 where
-  pub case : BackCase heads lits b heads' lits' o
-
--- The deletion that lies in the slice.
-abbrev pub deletion : List ℕ → ℕ → Step
-deletion hints many = delete (map half (take many hints))
+-- The deletion of the clauses that these ids stand for.
+abbrev pub deletion : List ℕ → Step
+deletion ids = delete (map half ids)
 
 -- The deletion is allowed: the store is no larger than it was, and a bound of its literals is one still.
 pub record Lessens (s : State) (step : Step) (lits : List ℕ) (b : Between) (heads' lits' : List ℕ) (b' : Between) : Type 0 where
@@ -162,15 +169,15 @@ pub record Lessens (s : State) (step : Step) (lits : List ℕ) (b : Between) (he
   pub below : (m : ℕ) → ((i : ℕ) → i < b.used → get_or lits i 0 < m) → (i : ℕ) → i < b'.used → get_or lits' i 0 < m
 
 abbrev pub DeleteCase : State → Step → List ℕ → Between → List ℕ → List ℕ → Outcome → Type 0
-DeleteCase s step lits b heads' lits' (On b') = Lessens s step lits b heads' lits' b'
-DeleteCase s step lits b heads' lits' Verified = ⊥
-DeleteCase s step lits b heads' lits' (Refused g) = judge s step ≡ refused (refusal_of g)
-DeleteCase s step lits b heads' lits' TooShort = ⊥
-DeleteCase s step lits b heads' lits' Unreadable = ⊥
-DeleteCase s step lits b heads' lits' Nothing = ⊥
+DeleteCase s step lits b heads' lits' (Ok (On b')) = Lessens s step lits b heads' lits' b'
+DeleteCase s step lits b heads' lits' (Ok Verified) = ⊥
+DeleteCase s step lits b heads' lits' (Ok Nothing) = ⊥
+DeleteCase s step lits b heads' lits' (Err (Refused g)) = judge s step ≡ refused (refusal_of g)
+DeleteCase s step lits b heads' lits' (Err TooShort) = ⊥
+DeleteCase s step lits b heads' lits' (Err Unreadable) = ⊥
 
-pub record Deletes (heads lits hints : List ℕ) (b : Between) (many : ℕ) (heads' lits' : List ℕ) (o : Outcome) : Type 0 where
-  pub case : DeleteCase (state_at heads lits b) (deletion hints many) lits b heads' lits' o
+pub record Deletes (heads lits ids : List ℕ) (b : Between) (heads' lits' : List ℕ) (o : Outcome) : Type 0 where
+  pub case : DeleteCase (state_at heads lits b) (deletion ids) lits b heads' lits' o
 
 -- Steps
 
@@ -227,12 +234,12 @@ LastTurns proof at b turns = (all : ℕ) → b.n + b.used + length (tokens (drop
 
 -- What taking a step came to, by the answer.
 abbrev pub TakeCase : List ℕ → ℕ → Between → State → List ℕ → List ℕ → List ℕ → List ℕ → ℕ → List ℕ → List ℕ → List ℕ → ℕ → ℕ → Outcome → Type 0
-TakeCase proof at b s heads lits hints tape cells heads' lits' marks' next turns (On b') = TakenOn proof at b s heads' lits' marks' next turns b'
-TakeCase proof at b s heads lits hints tape cells heads' lits' marks' next turns Verified = TakenVerified (tokens (drop at proof)) s × LastTurns proof at b turns
-TakeCase proof at b s heads lits hints tape cells heads' lits' marks' next turns (Refused g) = TakenRefused (tokens (drop at proof)) s (refusal_of g) × LastTurns proof at b turns
-TakeCase proof at b s heads lits hints tape cells heads' lits' marks' next turns TooShort = Lacks heads lits hints tape cells b.n b.used (tokens (drop at proof)) × LastTurns proof at b turns
-TakeCase proof at b s heads lits hints tape cells heads' lits' marks' next turns Unreadable = TakenBad (tokens (drop at proof)) × LastTurns proof at b turns
-TakeCase proof at b s heads lits hints tape cells heads' lits' marks' next turns Nothing = (tokens (drop at proof) ≡ []) × LastTurns proof at b turns
+TakeCase proof at b s heads lits hints tape cells heads' lits' marks' next turns (Ok (On b')) = TakenOn proof at b s heads' lits' marks' next turns b'
+TakeCase proof at b s heads lits hints tape cells heads' lits' marks' next turns (Ok Verified) = TakenVerified (tokens (drop at proof)) s × LastTurns proof at b turns
+TakeCase proof at b s heads lits hints tape cells heads' lits' marks' next turns (Ok Nothing) = (tokens (drop at proof) ≡ []) × LastTurns proof at b turns
+TakeCase proof at b s heads lits hints tape cells heads' lits' marks' next turns (Err (Refused g)) = TakenRefused (tokens (drop at proof)) s (refusal_of g) × LastTurns proof at b turns
+TakeCase proof at b s heads lits hints tape cells heads' lits' marks' next turns (Err TooShort) = Lacks heads lits hints tape cells b.n b.used (tokens (drop at proof)) × LastTurns proof at b turns
+TakeCase proof at b s heads lits hints tape cells heads' lits' marks' next turns (Err Unreadable) = TakenBad (tokens (drop at proof)) × LastTurns proof at b turns
 
 pub record TakesStep (proof : List ℕ) (at : ℕ) (b : Between) (heads lits hints marks tape heads' lits' marks' : List ℕ) (o : Outcome) (next turns : ℕ) : Type 0 where
   pub case : TakeCase proof at b (state_at heads lits b) heads lits hints tape (length marks) heads' lits' marks' next turns o

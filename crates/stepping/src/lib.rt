@@ -11,11 +11,24 @@
 ghost use Rattle.std.specs.Prelude.{◌≡◌, ◌+◌, ◌-◌, ◌*◌, ◌<◌, ◌≤◌, ◌^◌, length};
 ghost use Rattle.clauses.specs.Store.{RoomFor};
 ghost use Rattle.addition.specs.Addition.{all_turns};
-ghost use Rattle.stepping.specs.Stepping.{Spent, Accepts, AcceptsBy, Addable, Adds, Counted, GivesBack, MoreDead, GoesBack, Tight, Deletes, Keeps, TakesStep};
+ghost use Rattle.stepping.specs.Stepping.{failure_of, not_read, Lent, Spent, Accepts, Addable, Adds, Counted, GivesBack, Tight, Deletes, Keeps, TakesStep};
 
-use addition::{Ground, Verdict};
-use deletion::Deleted;
-use steps::StepRead;
+use addition::Ground;
+use assignment::Assignment;
+use clauses::{Timed, View};
+use formula::Fault;
+use steps::Step;
+
+// What a step works with: the clauses (`heads`, `lits`), the hints or ids of one step, the table of guesses, and the assignment.
+// A part that is only read is reborrowed as `&mut`, too, since a shared reborrow beside those of other fields has no rule yet.
+#[derive(Drop)]
+pub struct Bench<'a> {
+    pub heads: &'a mut [u32],
+    pub lits: &'a mut [u32],
+    pub hints: &'a mut [u32],
+    pub guess: &'a mut [u32],
+    pub assignment: Assignment<'a>,
+}
 
 // What is known between two steps: how many clauses the store has, live or deleted; how many literals; the greatest of C and
 // the ids added so far; and how much of the store belongs to deleted clauses, one for each clause and one for each literal.
@@ -27,6 +40,14 @@ pub struct Between {
     pub dead: usize,
 }
 
+// What a step comes to that is taken: the proof goes on; the empty clause was added; or there is no step left.
+#[derive(Clone, Copy)]
+pub enum Progress {
+    On(Between),
+    Verified,
+    Nothing,
+}
+
 // Why a step is refused: the ground of an addition's refusal; or the id of a deletion that is not live.
 #[derive(Clone, Copy)]
 pub enum Refusal {
@@ -34,352 +55,245 @@ pub enum Refusal {
     Deletion(u64),
 }
 
-// What a step comes to: the proof goes on; the empty clause was added; the step is refused; a part of the work store is too
-// short; the step is unreadable; or there is no step left.
+// Why a step is not taken: it is refused; a part of the work store is too short; or the step is unreadable.
 #[derive(Clone, Copy)]
-pub enum Outcome {
-    On(Between),
-    Verified,
+pub enum Failure {
     Refused(Refusal),
     TooShort,
     Unreadable,
-    Nothing,
 }
 
-// The same, and the turns that it took.
-#[derive(Clone, Copy)]
-pub struct Stepped {
-    pub outcome: Outcome,
-    pub turns: u64,
+impl From<addition::Failure> for Failure {
+    ghost from_gives = { λ why failure. failure ≡ failure_of why };
+
+    fn from(why: addition::Failure) -> Failure {
+        match why {
+            addition::Failure::Refused(ground) => Failure::Refused(Refusal::Addition(ground)),
+            addition::Failure::TooShort => Failure::TooShort,
+        }
+    }
 }
 
-// The same, and the place behind the step.
+impl From<Fault> for Failure {
+    ghost from_gives = { λ fault failure. failure ≡ not_read fault };
+
+    fn from(fault: Fault) -> Failure {
+        match fault {
+            Fault::Unreadable => Failure::Unreadable,
+            Fault::TooShort => Failure::TooShort,
+        }
+    }
+}
+
+// What a step came to, the place behind it, and the turns that it took.
 #[derive(Clone, Copy)]
 pub struct Taken {
-    pub outcome: Outcome,
+    pub outcome: Result<Progress, Failure>,
     pub next: usize,
     pub turns: u64,
 }
 
-// What is known after room was given back, and the turns that it took.
-#[derive(Clone, Copy)]
-struct Returned {
-    between: Between,
-    turns: u64,
-}
-
-// The turns of reading a step that passed so many bytes and stored so many literals, hints or ids: it has three tokens more.
-fn reading(bytes: usize, codes: usize) -> u64
-    ensures { Spent bytes codes 0 result }
-{
-    let tokens = clauses::plus(clauses::count(codes), 3);
-    clauses::plus(tokens, clauses::count(bytes))
-}
-
-// The turns of reading a step, and of what came then.
-fn reading_and(bytes: usize, codes: usize, more: u64) -> u64
+// The turns of reading a step that passed so many bytes and stored so many literals, hints or ids (it has three tokens more), and
+// of what came then.
+fn reading(bytes: usize, codes: usize, more: u64) -> u64
     ensures { Spent bytes codes more result }
 {
-    clauses::plus(reading(bytes, codes), more)
+    let tokens = clauses::plus(codes as u64, 3);
+    clauses::plus(clauses::plus(tokens, bytes as u64), more)
 }
 
-// The clause whose literals end at `end` was accepted under `id`: it becomes live, unless it is empty.
-fn accept(heads: &mut [u32], guess: &mut [u32], b: Between, id: u64, end: usize) -> Outcome
+// The clause whose literals end at `end` was judged under `id`: if it was accepted, it becomes live, unless it is empty.
+fn accept(
+    judged: Result<(), addition::Failure>,
+    heads: &mut [u32],
+    guess: &mut [u32],
+    b: Between,
+    id: u64,
+    end: usize,
+) -> Result<Progress, Failure>
     requires room_for { RoomFor heads.old b.n }
     requires id_bound { id < 2 ^ 31 }
-    ensures { Accepts heads.old b id end heads.new result }
+    ensures { Accepts judged heads.old b id end heads.new result }
 {
+    judged?;
     if end <= b.used {
-        return Outcome::Verified;
+        return Ok(Progress::Verified);
     }
-    let n = b.n;
-    if heads.len() <= 3 * n + 5 {
-        return Outcome::TooShort;
+    if heads.len() <= 3 * b.n + 5 {
+        return Err(Failure::TooShort);
     }
-    clauses::append(heads, n, id, end);
-    clauses::note(guess, id, n);
-    let next = n + 1;
-    let after = Between {
-        n: next,
+    clauses::append(heads, b.n, id, end);
+    clauses::note(guess, id, b.n);
+    Ok(Progress::On(Between {
+        n: b.n + 1,
         used: end,
         last: id,
-        dead: b.dead,
-    };
-    Outcome::On(after)
-}
-
-// The same, by the verdict.
-fn accept_by(
-    v: Verdict,
-    heads: &mut [u32],
-    guess: &mut [u32],
-    b: Between,
-    id: u64,
-    end: usize,
-) -> Outcome
-    requires room_for { RoomFor heads.old b.n }
-    requires id_bound { id < 2 ^ 31 }
-    ensures { AcceptsBy v heads.old b id end heads.new result }
-{
-    match v {
-        Verdict::Accepted => accept(heads, guess, b, id, end),
-        Verdict::Refused(g) => Outcome::Refused(Refusal::Addition(g)),
-        Verdict::TooShort => Outcome::TooShort,
-    }
-}
-
-// Judges the addition under `id` of the clause whose literals end at `end`, with the first `many` hints.
-fn add(
-    heads: &mut [u32],
-    lits: &[u32],
-    hints: &[u32],
-    guess: &mut [u32],
-    marks: &mut [u8],
-    tape: &mut [u32],
-    b: Between,
-    id: u64,
-    end: usize,
-    many: usize,
-) -> Stepped
-    requires { Addable heads.old lits.now hints.now marks.old b id end many }
-    ensures judged { Adds heads.old lits.now hints.now marks.old tape.old b id end many heads.new marks.new result.outcome }
-    ensures turns { result.turns ≤ all_turns b.n end many }
-{
-    let n = b.n;
-    let used = b.used;
-    let last = b.last;
-    let j = addition::judge_addition(
-        heads,
-        n,
-        guess,
-        &lits[..end],
-        used,
-        end,
-        marks,
-        tape,
-        hints,
-        many,
-        last,
-        id,
-    );
-    let v = j.verdict;
-    let o = accept_by(v, heads, guess, b, id, end);
-    Stepped {
-        outcome: o,
-        turns: j.turns,
-    }
+        ..b
+    }))
 }
 
 // Gives the room of deleted clauses back, if they have more than half of all.
-fn give_back(heads: &mut [u32], lits: &mut [u32], guess: &mut [u32], b: Between) -> Returned
+fn give_back(heads: &mut [u32], lits: &mut [u32], guess: &mut [u32], b: Between) -> Timed<Between>
     requires { Counted heads.old lits.old b }
-    ensures back { GivesBack heads.old lits.old b heads.new lits.new result.between }
+    ensures back { GivesBack heads.old lits.old b heads.new lits.new result.value }
     ensures turns { result.turns ≤ 2 * (b.n + b.used) }
 {
     let half = (b.n + b.used) / 2;
     if b.dead <= half {
-        return Returned {
-            between: b,
-            turns: 0,
-        };
+        return Timed { value: b, turns: 0 };
     }
-    let c = clauses::compact(heads, lits, b.n);
-    let n = c.n;
-    let noted = clauses::note_all(heads, n, guess);
-    let turns = clauses::plus(c.turns, noted);
+    let left = clauses::compact(heads, lits, b.n);
+    let noted = clauses::note_all(heads, left.n, guess);
     let after = Between {
-        n: n,
-        used: c.used,
-        last: b.last,
+        n: left.n,
+        used: left.used,
         dead: 0,
+        ..b
     };
-    Returned {
-        between: after,
-        turns: turns,
+    Timed {
+        value: after,
+        turns: clauses::plus(left.turns, noted),
     }
 }
 
-// The same, where clauses that take so much were deleted just now, which took so many turns.
-fn settle(
-    heads: &mut [u32],
-    lits: &mut [u32],
-    guess: &mut [u32],
-    b: Between,
-    more: usize,
-    turns: u64,
-) -> Stepped
-    requires { MoreDead heads.old lits.old b more }
-    ensures back { GoesBack heads.old lits.old b heads.new lits.new result.outcome }
-    ensures turns { result.turns ≤ turns + 2 * (b.n + b.used) }
-{
-    let dead = b.dead + more;
-    let now = Between {
-        n: b.n,
-        used: b.used,
-        last: b.last,
-        dead: dead,
-    };
-    let r = give_back(heads, lits, guess, now);
-    let after = r.between;
-    let all = clauses::plus(turns, r.turns);
-    Stepped {
-        outcome: Outcome::On(after),
-        turns: all,
+impl Bench<'_> {
+    // Judges the addition under `id` of the clause whose literals end at `end`, with the first `many` hints.
+    fn add(
+        &mut self,
+        b: Between,
+        id: u64,
+        end: usize,
+        many: usize,
+    ) -> Timed<Result<Progress, Failure>>
+        requires { Addable self.old.heads.now self.old.lits.now self.old.hints.now self.old.assignment.marks.now b id end many }
+        ensures judged { Adds self.old.heads.now self.old.lits.now self.old.hints.now self.old.assignment.marks.now self.old.assignment.tape.now b id end many self.new.heads.now self.new.assignment.marks.now result.value }
+        ensures turns { result.turns ≤ all_turns b.n end many }
+        ensures lits { self.new.lits.now ≡ self.old.lits.now }
+        ensures lent { Lent self.old self.new }
+    {
+        self.assignment.t = 0;
+        let lits: &[u32] = &mut *self.lits;
+        let hints: &[u32] = &mut *self.hints;
+        let view = View {
+            heads: &mut *self.heads,
+            lits: &lits[..end],
+            guess: &mut *self.guess,
+            n: b.n,
+        };
+        let judged = addition::judge_addition(
+            view,
+            &lits[b.used..end],
+            &mut self.assignment,
+            &hints[..many],
+            b.last,
+            id,
+        );
+        Timed {
+            value: accept(judged.value, self.heads, self.guess, b, id, end),
+            turns: judged.turns,
+        }
     }
 }
 
-// Judges the deletion of the first `many` ids.
+// Judges the deletion of the clauses that these ids stand for, and gives room back. It takes the parts one by one: how long a slice
+// can be is known of a parameter, not of a field behind `&mut Bench`, and the sum of what is dead rests on that.
 fn delete(
     heads: &mut [u32],
     lits: &mut [u32],
-    hints: &[u32],
+    ids: &[u32],
     guess: &mut [u32],
     b: Between,
-    many: usize,
-) -> Stepped
-    requires tight { Tight heads.old lits.old b }
-    requires many_in_bounds { many ≤ length hints.now }
-    ensures judged { Deletes heads.old lits.old hints.now b many heads.new lits.new result.outcome }
-    ensures turns { result.turns ≤ 64 * many + 2 * (b.n + b.used) }
+) -> Timed<Result<Progress, Failure>>
+    requires { Tight heads.old lits.old b }
+    ensures judged { Deletes heads.old lits.old ids.now b heads.new lits.new result.value }
+    ensures turns { result.turns ≤ 64 * length ids.now + 2 * (b.n + b.used) }
 {
-    let n = b.n;
-    let d = deletion::delete_all(heads, n, guess, hints, many);
-    match d {
-        Deleted::Done { dead, turns } => settle(heads, lits, guess, b, dead, turns),
-        Deleted::NotLive { id, dead, turns } => Stepped {
-            outcome: Outcome::Refused(Refusal::Deletion(id)),
-            turns: turns,
-        },
+    let deleted = deletion::delete_all(heads, b.n, guess, ids);
+    if let Err(id) = deleted.outcome {
+        return Timed {
+            value: Err(Failure::Refused(Refusal::Deletion(id))),
+            turns: deleted.turns,
+        };
+    }
+    let now = Between {
+        dead: b.dead + deleted.dead,
+        ..b
+    };
+    let back = give_back(heads, lits, guess, now);
+    Timed {
+        value: Ok(Progress::On(back.value)),
+        turns: clauses::plus(deleted.turns, back.turns),
     }
 }
 
-// An addition that was read, up to `next`, in so many bytes.
-fn take_addition(
-    heads: &mut [u32],
-    lits: &[u32],
-    hints: &[u32],
-    guess: &mut [u32],
-    marks: &mut [u8],
-    tape: &mut [u32],
-    b: Between,
-    id: u64,
-    end: usize,
-    many: usize,
-    next: usize,
-    bytes: usize,
-) -> Taken
-    requires { Addable heads.old lits.now hints.now marks.old b id end many }
-    ensures judged { Adds heads.old lits.now hints.now marks.old tape.old b id end many heads.new marks.new result.outcome }
-    ensures next { result.next ≡ next }
-    ensures turns { Spent bytes ((end - b.used) + many) (all_turns b.n end many) result.turns }
-{
-    let s = add(heads, lits, hints, guess, marks, tape, b, id, end, many);
-    let o = s.outcome;
-    let codes = (end - b.used) + many;
-    let turns = reading_and(bytes, codes, s.turns);
-    Taken {
-        outcome: o,
-        next: next,
-        turns: turns,
+impl Taken {
+    // A step that was read up to `next`, where so many bytes were passed and so many codes stored.
+    fn read(
+        step: Timed<Result<Progress, Failure>>,
+        next: usize,
+        bytes: usize,
+        codes: usize,
+    ) -> Taken
+        ensures outcome { result.outcome ≡ step.value }
+        ensures next { result.next ≡ next }
+        ensures turns { Spent bytes codes step.turns result.turns }
+    {
+        Taken {
+            outcome: step.value,
+            next,
+            turns: reading(bytes, codes, step.turns),
+        }
     }
-}
 
-// A deletion that was read, up to `next`, in so many bytes.
-fn take_deletion(
-    heads: &mut [u32],
-    lits: &mut [u32],
-    hints: &[u32],
-    guess: &mut [u32],
-    b: Between,
-    many: usize,
-    next: usize,
-    bytes: usize,
-) -> Taken
-    requires tight { Tight heads.old lits.old b }
-    requires many_in_bounds { many ≤ length hints.now }
-    ensures judged { Deletes heads.old lits.old hints.now b many heads.new lits.new result.outcome }
-    ensures next { result.next ≡ next }
-    ensures turns { Spent bytes many (64 * many + 2 * (b.n + b.used)) result.turns }
-{
-    let s = delete(heads, lits, hints, guess, b, many);
-    let o = s.outcome;
-    let turns = reading_and(bytes, many, s.turns);
-    Taken {
-        outcome: o,
-        next: next,
-        turns: turns,
-    }
-}
-
-// A step that was not read to its end, where so many bytes are left and so many codes were stored.
-fn stop(o: Outcome, next: usize, bytes: usize, codes: usize) -> Taken
-    ensures outcome { result.outcome ≡ o }
-    ensures next { result.next ≡ next }
-    ensures turns { Spent bytes codes bytes result.turns }
-{
-    let turns = reading_and(bytes, codes, clauses::count(bytes));
-    Taken {
-        outcome: o,
-        next: next,
-        turns: turns,
+    // A step that was not read to its end, where so many bytes are left and so many codes were stored.
+    fn unread(outcome: Result<Progress, Failure>, next: usize, bytes: usize, codes: usize) -> Taken
+        ensures outcome { result.outcome ≡ outcome }
+        ensures next { result.next ≡ next }
+        ensures turns { Spent bytes codes bytes result.turns }
+    {
+        let turns = bytes as u64;
+        Taken::read(
+            Timed {
+                value: outcome,
+                turns,
+            },
+            next,
+            bytes,
+            codes,
+        )
     }
 }
 
 // Takes the step at `at`: reads it, judges it, and brings the store up to date.
-pub fn take_step(
-    proof: &[u8],
-    at: usize,
-    b: Between,
-    heads: &mut [u32],
-    lits: &mut [u32],
-    hints: &mut [u32],
-    guess: &mut [u32],
-    marks: &mut [u8],
-    tape: &mut [u32],
-) -> Taken
-    requires keeps { Keeps heads.old lits.old marks.old b }
+pub fn take_step(proof: &[u8], at: usize, b: Between, bench: &mut Bench) -> Taken
+    requires keeps { Keeps bench.old.heads.now bench.old.lits.now bench.old.assignment.marks.now b }
     requires at_in_bounds { at ≤ length proof.now }
-    ensures { TakesStep proof.now at b heads.old lits.old hints.old marks.old tape.old heads.new lits.new marks.new result.outcome result.next result.turns }
+    ensures step { TakesStep proof.now at b bench.old.heads.now bench.old.lits.now bench.old.hints.now bench.old.assignment.marks.now bench.old.assignment.tape.now bench.new.heads.now bench.new.lits.now bench.new.assignment.marks.now result.outcome result.next result.turns }
+    ensures lent { Lent bench.old bench.new }
 {
-    let used = b.used;
-    let cells = marks.len();
     let bytes = proof.len() - at;
-    let r = steps::read_step(proof, at, used, cells, lits, hints);
-    match r {
-        StepRead::Addition {
-            id,
-            end,
-            many,
-            next,
-        } => {
-            take_addition(
-                heads,
-                lits,
-                hints,
-                guess,
-                marks,
-                tape,
-                b,
+    let cells = bench.assignment.marks.len();
+    match steps::read_step(proof, at, b.used, cells, bench.lits, bench.hints) {
+        Ok(
+            Step::Addition {
                 id,
                 end,
                 many,
                 next,
-                next - at,
-            )
+            },
+        ) => {
+            let codes = (end - b.used) + many;
+            Taken::read(bench.add(b, id, end, many), next, next - at, codes)
         }
-        StepRead::Deletion { many, next } => {
-            take_deletion(heads, lits, hints, guess, b, many, next, next - at)
+        Ok(Step::Deletion { many, next }) => {
+            let hints: &[u32] = &mut *bench.hints;
+            let deleted = delete(bench.heads, bench.lits, &hints[..many], bench.guess, b);
+            Taken::read(deleted, next, next - at, many)
         }
-        StepRead::Nothing { next } => stop(Outcome::Nothing, next, bytes, 0),
-        StepRead::Unreadable {
-            at: place,
-            end,
-            many,
-        } => stop(Outcome::Unreadable, place, bytes, (end - used) + many),
-        StepRead::TooShort {
-            at: place,
-            end,
-            many,
-        } => stop(Outcome::TooShort, place, bytes, (end - used) + many),
+        Ok(Step::Nothing { next }) => Taken::unread(Ok(Progress::Nothing), next, bytes, 0),
+        Err(stopped) => {
+            let codes = (stopped.end - b.used) + stopped.many;
+            Taken::unread(Err(Failure::from(stopped.fault)), stopped.at, bytes, codes)
+        }
     }
 }

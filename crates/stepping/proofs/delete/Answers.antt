@@ -1,26 +1,32 @@
 -- `delete` meets its contract: all ids were live, and room is given back; or one was not. Assumes nothing.
-use Rattle.stepping.proofs.Lessening.{tight_headed, deleted_more, deleted_on, deleted_turns, deleted_not, deleted_not_turns}
+use Rattle.std.proofs.Common.{arith}
+use Rattle.stepping.proofs.Lessening.{tight_headed, more_fits, deleted_more, deleted_on, deleted_turns, deleted_not, deleted_not_turns}
 use Rattle.stepping.proofs.delete.Goals as goal
 
-pub delete_all-d-requires : goal.delete_all-d-requires
-delete_all-d-requires c = record { headed = tight_headed _ _ _ c.requires.tight c.well_formed.1.0.1; many_in_bounds = c.requires.many_in_bounds }
+pub delete_all-deleted-requires : goal.delete_all-deleted-requires
+delete_all-deleted-requires c = tight_headed _ _ _ c.requires c.well_formed.1.0.1
 
-pub settle-requires : goal.settle-requires
-settle-requires c =
-    deleted_more _ _ _ _ _ c.requires.tight _ _ c.delete_all-d.ensures _ _ c.in-Done.is
-
-pub returns-in-Done : goal.returns-in-Done
-returns-in-Done c =
-    let gone = c.delete_all-d.ensures in
+pub returns-in-Err : goal.returns-in-Err
+returns-in-Err c =
+    let gone = c.delete_all-deleted.ensures in
     record {
-      judged = deleted_on _ _ _ _ _ c.requires.tight _ _ gone _ _ c.in-Done.is _ _ _ c.settle.ensures.back;
-      turns = deleted_turns _ _ _ _ _ c.requires.tight _ _ gone _ _ c.in-Done.is c.requires.many_in_bounds _ c.settle.ensures.turns;
+      judged = deleted_not _ _ _ _ c.requires _ _ _ _ gone _ c.in-Err.is _ _;
+      turns = deleted_not_turns _ _ _ _ c.requires _ _ _ _ gone _ c.in-Err.is;
     }
 
-pub returns-in-NotLive : goal.returns-in-NotLive
-returns-in-NotLive c =
-    let gone = c.delete_all-d.ensures in
+pub overflow_add-now : goal.overflow_add-now
+overflow_add-now c =
     record {
-      judged = deleted_not _ _ _ _ _ c.requires.tight _ _ gone _ _ _ c.in-NotLive.is _ _;
-      turns = deleted_not_turns _ _ _ _ _ c.requires.tight _ _ gone _ _ _ c.in-NotLive.is c.requires.many_in_bounds;
+      fits = more_fits _ _ _ _ c.requires _ _ _ _ c.delete_all-deleted.ensures _ c.in_default.is (rw c.delete_all-deleted.auto.heads c.well_formed.0.1) c.well_formed.1.0.1;
+    }
+
+pub give_back-back-requires : goal.give_back-back-requires
+give_back-back-requires c = deleted_more _ _ _ _ c.requires _ _ _ _ c.delete_all-deleted.ensures _ c.in_default.is
+
+pub returns : goal.returns
+returns c =
+    let gone = c.delete_all-deleted.ensures in
+    record {
+      judged = deleted_on _ _ _ _ c.requires _ _ _ _ gone _ c.in_default.is _ _ _ c.give_back-back.ensures.back;
+      turns = deleted_turns _ _ _ _ c.requires _ _ _ _ gone _ c.in_default.is _ (omega (arith, c.plus.ensures.at_most, c.give_back-back.ensures.turns));
     }

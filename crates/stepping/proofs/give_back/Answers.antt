@@ -7,4 +7,4 @@ pub returns-then-b-half : goal.returns-then-b-half
 returns-then-b-half c = record { back = back_same _ _ _ c.requires (omega (arith, c.if-b-half.true)); turns = omega arith }
 
 pub returns : goal.returns
-returns c = record { back = back_moved _ _ _ c.requires _ _ _ c.compact-c.ensures; turns = back_turns _ _ _ c.requires _ _ _ c.compact-c.ensures _ _ c.note_all-noted.ensures.turns c.plus-turns.ensures }
+returns c = record { back = back_moved _ _ _ c.requires _ _ _ c.compact-left.ensures; turns = back_turns _ _ _ c.requires _ _ _ c.compact-left.ensures _ _ c.note_all-noted.ensures.turns c.plus.ensures }

@@ -3,4 +3,4 @@ use Rattle.stepping.proofs.Spending.{spent_reading}
 use Rattle.stepping.proofs.reading.Goals as goal
 
 pub returns : goal.returns
-returns c = spent_reading _ _ _ _ _ _ c.count.ensures c.count-2.ensures c.plus-tokens.ensures c.plus.ensures
+returns c = spent_reading _ _ _ _ _ _ c.plus-tokens.ensures c.plus.ensures c.plus-2.ensures
