@@ -1,4 +1,5 @@
 -- From the end of the run to the answer, and from the formula in the store to the formula that the bytes spell. Assumes nothing.
+use Rattle.std.specs.Prelude.{Result, Ok, Err}
 use Rattle.std.proofs.Common.{ℕ, ◌+◌, ◌*◌, ◌/◌, ◌%◌, ◌≤◌, ◌≡◌, refl, sym, ap, ◌∙◌, inl, inr, ⊎_elim, false, List, arith, mul-le-mul, length, take}
 use Rattle.std.proofs.Math.Option.{some}
 use Rattle.meaning.specs.Meaning.{Formula}
@@ -9,60 +10,63 @@ use Rattle.rules.proofs.Counting.{tokens_few}
 use Rattle.rules.proofs.Running.{checked-run, verdict-read, verdict-unread}
 use Rattle.clauses.specs.Counting.{Counts}
 use Rattle.formula.specs.Body.{greatest}
-use Rattle.formula.specs.Reading.{IsStored, IsUnreadable, IsTooShort, Reads}
-use Rattle.formula.specs.declared.FormulaRead.{FormulaRead}
-use Rattle.formula.specs.declared.FormulaRead.TheVariants.{Stored as IsRead, Unreadable as IsUnread, TooShort as IsShort}
+use Rattle.formula.specs.Reading.{IsStored, ReadStopped, Reads}
+use Rattle.formula.specs.declared.Fault.{Fault}
+use Rattle.formula.specs.declared.Fault.TheVariants.{Unreadable as NotReadable, TooShort as NotStored}
+use Rattle.formula.specs.declared.Stored.{Stored}
+use Rattle.formula.specs.declared.Stopped.{Stopped}
 use Rattle.stepping.specs.Stepping.{refusal_of, rate}
 use Rattle.stepping.specs.declared.Between.{Between}
 use Rattle.checker.specs.Promises.{Exact, Short, time_bound, step_of}
-use Rattle.checker.specs.Running.{steps_of, EndedCase, all_of, RunsTo, proof_turns, run_turns}
-use Rattle.checker.specs.Answering.{answer_by, Cleared, Charged, HasMarks, Begun, AnswerCase, Answers, ChecksMarked}
+use Rattle.checker.specs.Running.{steps_of, StopCase, EndedCase, all_of, RunsTo, proof_turns, run_turns}
+use Rattle.checker.specs.Answering.{stopped_by, answer_by, unread_by, Cleared, Charged, HasMarks, Begun, AnswerCase, Answers, ChecksMarked}
 use Rattle.checker.specs.declared.Answer.{Answer}
 use Rattle.checker.specs.declared.Answer.TheVariants.{Verified, UnreadableFormula, UnreadableStep, Refused, Unfinished, TooShort}
-use Rattle.checker.specs.declared.running.Ended.{Ended}
-use Rattle.checker.specs.declared.running.Ended.TheVariants.{Verified as EndsVerified, Unreadable as EndsUnreadable, Refused as EndsRefused, Unfinished as EndsUnfinished, TooShort as EndsTooShort}
+use Rattle.checker.specs.declared.running.Finish.{Finish}
+use Rattle.checker.specs.declared.running.Finish.TheVariants.{Verified as EndsVerified, Unfinished as EndsUnfinished}
+use Rattle.checker.specs.declared.running.Stop.{Stop}
+use Rattle.stepping.specs.declared.Failure.{Failure}
+use Rattle.stepping.specs.declared.Failure.TheVariants.{Refused as IsRefused, TooShort as NoRoom, Unreadable as NotRead}
 use Rattle.checker.proofs.Clearing.{cleared_shows, cleared_paired}
 use Rattle.checker.proofs.Storing.{no_mark, begun_state}
 use Rattle.checker.proofs.Runs.{short_same}
 
 -- By how the run ended.
-pub answer_at : (e x : Ended) → e ≡ x → answer_by x ≡ answer_by e
-answer_at e x q = rw q
 
-step_same : (e : Ended) → step_of (answer_by e) ≡ steps_of e
-step_same (EndsVerified k) = refl
-step_same (EndsUnreadable k) = refl
-step_same (EndsRefused k g) = refl
-step_same (EndsUnfinished k) = refl
-step_same EndsTooShort = refl
+stopped_least : (k : ℕ) (why : Failure) → step_of (stopped_by k why) ≤ k
+stopped_least k (IsRefused g) = omega arith
+stopped_least k NoRoom = omega arith
+stopped_least k NotRead = omega arith
+
+step_least : (e : Result Finish Stop) → step_of (answer_by e) ≤ steps_of e
+step_least (Ok (EndsVerified k)) = omega arith
+step_least (Ok (EndsUnfinished k)) = omega arith
+step_least (Err x) = stopped_least x.step x.why
 
 -- The formula in the store
 
--- What is known at the start.
-pub between_same : (n used last : ℕ) → last ≡ n
-    → ◌≡◌ {A = Between} (record { n = n; used = used; last = last; dead = 0 }) (record { n = n; used = used; last = n; dead = 0 })
-between_same n used last e = rw e
-
 module _ (proof heads lits hints marks tape : List ℕ) (n used : ℕ) where
   -- Some variable has no mark.
-  pub stored_short : (top before : ℕ) → top ≡ greatest (take used lits) / 2 → HasMarks (length marks) used top false
-      → Answers proof heads lits hints marks tape n used TooShort × ((0 ≤ before) × (before ≤ before + n + proof_turns proof (n + used)))
-  stored_short top before e h =
-      (record { case = λ F held is_n. inl (no_mark heads lits n used top (length marks) e h F held is_n) }, (omega arith, omega arith))
+  pub stored_short : (top : ℕ) → top ≡ greatest (take used lits) / 2 → HasMarks (length marks) used top false → Answers proof heads lits hints marks tape n used TooShort
+  stored_short top e h = record { case = λ F held is_n. inl (no_mark heads lits n used top (length marks) e h F held is_n) }
 
   module _ (b : Between) (q : b ≡ record { n = n; used = used; last = n; dead = 0 }) where
-    by_end : (F : Formula) (e : Ended) → EndedCase (start F) (tokens proof) heads lits hints tape (length marks) (n + used + length (tokens proof)) e
+    by_stop : (F : Formula) (k : ℕ) (why : Failure) → StopCase (start F) (tokens proof) heads lits hints tape (length marks) (n + used + length (tokens proof)) k why
+        → AnswerCase F proof heads lits hints tape (length marks) (n + used) (stopped_by k why)
+    by_stop F k (IsRefused g) y = record { ground = refusal_of g; is = checked-run F (tokens proof) ∙ y }
+    by_stop F k NoRoom y = inr y
+    by_stop F k NotRead y = checked-run F (tokens proof) ∙ y
+
+    by_end : (F : Formula) (e : Result Finish Stop) → EndedCase (start F) (tokens proof) heads lits hints tape (length marks) (n + used + length (tokens proof)) e
         → AnswerCase F proof heads lits hints tape (length marks) (n + used) (answer_by e)
-    by_end F (EndsVerified k) y = checked-run F (tokens proof) ∙ y
-    by_end F (EndsUnreadable k) y = checked-run F (tokens proof) ∙ y
-    by_end F (EndsRefused k g) y = record { ground = refusal_of g; is = checked-run F (tokens proof) ∙ y }
-    by_end F (EndsUnfinished k) y = checked-run F (tokens proof) ∙ y
-    by_end F EndsTooShort y = inr y
+    by_end F (Ok (EndsVerified k)) y = checked-run F (tokens proof) ∙ y
+    by_end F (Ok (EndsUnfinished k)) y = checked-run F (tokens proof) ∙ y
+    by_end F (Err x) y = by_stop F x.step x.why y
 
     same_all : all_of proof b ≡ n + used + length (tokens proof)
     same_all = ap (all_of proof) q
 
-    stored_answers : (e : Ended) → RunsTo proof b heads lits hints marks tape e → (a : Answer) → a ≡ answer_by e → Answers proof heads lits hints marks tape n used a
+    stored_answers : (e : Result Finish Stop) → RunsTo proof b heads lits hints marks tape e → (a : Answer) → a ≡ answer_by e → Answers proof heads lits hints marks tape n used a
     stored_answers e r a x =
         rw x
         (record {
@@ -71,14 +75,14 @@ module _ (proof heads lits hints marks tape : List ℕ) (n used : ℕ) where
               (rw (begun_state heads lits n used F held is_n b q, same_all) at r.case);
         })
 
-    stored_turns : (e : Ended) (ran : ℕ) → steps_of e ≤ ran → ran ≤ run_turns proof b → (a : Answer) → a ≡ answer_by e
+    stored_turns : (e : Result Finish Stop) (ran : ℕ) → steps_of e ≤ ran → ran ≤ run_turns proof b → (a : Answer) → a ≡ answer_by e
         → (before noted sum all : ℕ) → noted ≡ n → Counts before noted sum → Counts sum ran all
         → (step_of a ≤ all) × (all ≤ before + n + proof_turns proof (n + used))
     stored_turns e ran l m a x before noted sum all z c d =
         let most : ran ≤ proof_turns proof (n + used) = rw q at m in
-        (rw (x, step_same e) (omega (arith, d.second)), omega (arith, c.at_most, d.at_most))
+        (rw x (omega (arith, step_least e, d.second)), omega (arith, c.at_most, d.at_most))
 
-    pub stored_ran : (e : Ended) (ran : ℕ) → RunsTo proof b heads lits hints marks tape e × ((steps_of e ≤ ran) × (ran ≤ run_turns proof b)) → (a : Answer) → a ≡ answer_by e
+    pub stored_ran : (e : Result Finish Stop) (ran : ℕ) → RunsTo proof b heads lits hints marks tape e × ((steps_of e ≤ ran) × (ran ≤ run_turns proof b)) → (a : Answer) → a ≡ answer_by e
         → (before noted sum all : ℕ) → noted ≡ n → Counts before noted sum → Counts sum ran all
         → Answers proof heads lits hints marks tape n used a × ((step_of a ≤ all) × (all ≤ before + n + proof_turns proof (n + used)))
     stored_ran e ran r a x before noted sum all z c d =
@@ -102,14 +106,14 @@ all_turns_lem f p n used before all h b t =
       mul-le-mul {n₁ = length (tokens p)} {m₁ = 2 * (n + used + length (tokens p)) + 73} {n₂ = length p + 1} {m₂ = length f + length p + 75} (omega (arith, tokens_few p)) (omega (arith, tokens_few p)),
     )
 
-module _ (f p heads lits hints marks tape : List ℕ) (r : FormulaRead) (heads' lits' : List ℕ) (rd : Reads f heads lits heads' lits' r)
+module _ (f p heads lits hints marks tape : List ℕ) (r : Result Stored Stopped) (heads' lits' : List ℕ) (rd : Reads f heads lits heads' lits' r)
     (hl : length heads' ≡ length heads) (ll : length lits' ≡ length lits) where
   -- The formula is in the store.
-  module _ (vars n used top : ℕ) (e : r ≡ IsRead vars n used top) where
-    stored : IsStored (read_formula f) f heads' lits' vars n used top
+  module _ (x : Stored) (e : r ≡ Ok x) where
+    stored : IsStored (read_formula f) f heads' lits' x.vars x.clauses x.used x.top
     stored = rw e at rd.case
 
-    pub marked_begun : (marks' : List ℕ) → Cleared marks' → length marks' % 2 ≡ 0 → length marks' ≤ 33_554_432 → Begun heads' lits' marks' n used top
+    pub marked_begun : (marks' : List ℕ) → Cleared marks' → length marks' % 2 ≡ 0 → length marks' ≤ 33_554_432 → Begun heads' lits' marks' x.clauses x.used x.top
     marked_begun marks' c ev few = record {
       formula = stored.formula;
       holds = stored.holds;
@@ -120,7 +124,7 @@ module _ (f p heads lits hints marks tape : List ℕ) (r : FormulaRead) (heads' 
     }
 
     module _ (marks' : List ℕ) (ml : length marks' ≡ length marks) where
-      exact_by : (a : Answer) → AnswerCase stored.formula p heads' lits' hints tape (length marks') (n + used) a → Exact f p a
+      exact_by : (a : Answer) → AnswerCase stored.formula p heads' lits' hints tape (length marks') (x.clauses + x.used) a → Exact f p a
       exact_by (Verified k) y = inr (ap some (sym (verdict-read f p stored.formula stored.is ∙ ap answer y)))
       exact_by UnreadableFormula y = absurd y
       exact_by (UnreadableStep k) y = inr (ap some (sym (verdict-read f p stored.formula stored.is ∙ ap answer y)))
@@ -128,54 +132,49 @@ module _ (f p heads lits hints marks tape : List ℕ) (r : FormulaRead) (heads' 
       exact_by (Unfinished k) y = inr (ap some (sym (verdict-read f p stored.formula stored.is ∙ ap answer y)))
       exact_by TooShort y = inl refl
 
-      short_by : AnswerCase stored.formula p heads' lits' hints tape (length marks') (n + used) TooShort → Short f p heads lits hints tape (length marks)
+      short_by : AnswerCase stored.formula p heads' lits' hints tape (length marks') (x.clauses + x.used) TooShort → Short f p heads lits hints tape (length marks)
       short_by y =
           inr
           (record {
             formula = stored.formula;
             is = stored.is;
-            all = n + used + length (tokens p);
+            all = x.clauses + x.used + length (tokens p);
             few = omega (arith, stored.few, tokens_few p);
             short =
                 ⊎_elim
-                (λ x. inl (rw ml at x))
-                (λ x. inr (short_same heads' lits' hints tape heads lits hints tape (length marks') (length marks) (start stored.formula) (tokens p) (n + used + length (tokens p)) hl ll refl refl (λ ts g. rw ml at g) x))
+                (λ z. inl (rw ml at z))
+                (λ z. inr (short_same heads' lits' hints tape heads lits hints tape (length marks') (length marks) (start stored.formula) (tokens p) (x.clauses + x.used + length (tokens p)) hl ll refl refl (λ ts g. rw ml at g) z))
                 y;
           })
 
-      pub marked_stored : (a : Answer) → Answers p heads' lits' hints marks' tape n used a → (cleared read before turns : ℕ) → cleared ≤ 33_554_432
-          → Charged (length f) used n read → Counts cleared read before → step_of a ≤ turns → turns ≤ before + n + proof_turns p (n + used)
+      pub marked_stored : (a : Answer) → Answers p heads' lits' hints marks' tape x.clauses x.used a → (cleared read before turns : ℕ) → cleared ≤ 33_554_432
+          → Charged (length f) x.used x.clauses read → Counts cleared read before → step_of a ≤ turns → turns ≤ before + x.clauses + proof_turns p (x.clauses + x.used)
           → ChecksMarked f p heads lits hints marks tape a turns
-      marked_stored a x cleared read before turns h c d l m = record {
+      marked_stored a y cleared read before turns h c d l m = record {
         exact = exact_by a case;
         short = λ q. short_by (rw q at case);
         least = l;
-        most = all_turns_lem f p n used before turns stored.few (before_turns (length f) used n cleared read before h c d) m;
+        most = all_turns_lem f p x.clauses x.used before turns stored.few (before_turns (length f) x.used x.clauses cleared read before h c d) m;
       }
         where
-          case : AnswerCase stored.formula p heads' lits' hints tape (length marks') (n + used) a
-          case = x.case stored.formula stored.holds stored.is_clauses
+          case : AnswerCase stored.formula p heads' lits' hints tape (length marks') (x.clauses + x.used) a
+          case = y.case stored.formula stored.holds stored.is_clauses
 
   -- It is not.
-  module _ (at used closed : ℕ) where
-    pub marked-unread : r ≡ IsUnread at used closed → (cleared read turns : ℕ) → cleared ≤ 33_554_432 → Charged (length f) used closed read → Counts cleared read turns
-        → ChecksMarked f p heads lits hints marks tape UnreadableFormula turns
-    marked-unread e cleared read turns h c d =
-        let x : IsUnreadable (read_formula f) f at used closed = rw e at rd.case in
-        record {
-          exact = inr (ap some (sym (verdict-unread f p x.is)));
-          short = λ q. absurd (let z : ◌≡◌ {A = ℕ} 0 1 = cc in omega arith);
-          least = omega arith;
-          most = omega (arith, before_turns (length f) used closed cleared read turns h c d, x.few);
-        }
+  module _ (stop : Stopped) (e : r ≡ Err stop) (cleared read turns : ℕ) (h : cleared ≤ 33_554_432) (c : Charged (length f) stop.used stop.closed read) (d : Counts cleared read turns) where
+    unread : (fault : Fault) → ReadStopped (read_formula f) f heads lits stop.at stop.used stop.closed fault → ChecksMarked f p heads lits hints marks tape (unread_by fault) turns
+    unread NotReadable x = record {
+      exact = inr (ap some (sym (verdict-unread f p x.is)));
+      short = λ q. absurd (let z : ◌≡◌ {A = ℕ} 0 1 = cc in omega arith);
+      least = omega arith;
+      most = omega (arith, before_turns (length f) stop.used stop.closed cleared read turns h c d, x.few);
+    }
+    unread NotStored x = record {
+      exact = inl refl;
+      short = λ q. inl x.short;
+      least = omega arith;
+      most = omega (arith, before_turns (length f) stop.used stop.closed cleared read turns h c d, x.few);
+    }
 
-    pub marked_short : r ≡ IsShort at used closed → (cleared read turns : ℕ) → cleared ≤ 33_554_432 → Charged (length f) used closed read → Counts cleared read turns
-        → ChecksMarked f p heads lits hints marks tape TooShort turns
-    marked_short e cleared read turns h c d =
-        let x : IsTooShort f heads lits at used closed = rw e at rd.case in
-        record {
-          exact = inl refl;
-          short = λ q. inl x.short;
-          least = omega arith;
-          most = omega (arith, before_turns (length f) used closed cleared read turns h c d, x.few);
-        }
+    pub marked-unread : (a : Answer) → a ≡ unread_by stop.fault → ChecksMarked f p heads lits hints marks tape a turns
+    marked-unread a q = rw q (unread stop.fault (rw e at rd.case))

@@ -1,5 +1,5 @@
 -- What the functions between the run and the front door promise.
-use Rattle.std.specs.Prelude.{ℕ, ◌+◌, ◌*◌, ◌/◌, ◌%◌, ◌<◌, ◌≤◌, ◌≡◌, ◌⊎◌, Bool, true, false, List, [], length, get_or, take}
+use Rattle.std.specs.Prelude.{ℕ, ◌+◌, ◌*◌, ◌/◌, ◌%◌, ◌<◌, ◌≤◌, ◌≡◌, ◌⊎◌, Result, Ok, Err, Bool, true, false, List, [], length, get_or, take}
 use Rattle.meaning.specs.Meaning.{Formula}
 use Rattle.rules.specs.Text.{tokens}
 use Rattle.rules.specs.Judging.{Ground}
@@ -8,19 +8,34 @@ use Rattle.clauses.specs.Counting.{Reaches}
 use Rattle.clauses.specs.Store.{Holds}
 use Rattle.assignment.specs.Marks.{Shows, Paired}
 use Rattle.formula.specs.Body.{greatest}
+use Rattle.formula.specs.declared.Fault.{Fault}
+use Rattle.formula.specs.declared.Fault.TheVariants.{Unreadable as NotReadable, TooShort as NoRoom}
 use Rattle.checker.specs.Promises.{Exact, NoMark, ShortAt, Short, time_bound, step_of}
 use Rattle.checker.specs.declared.Answer.{Answer}
 use Rattle.checker.specs.declared.Answer.TheVariants.{Verified, UnreadableFormula, UnreadableStep, Refused, Unfinished, TooShort}
-use Rattle.checker.specs.declared.running.Ended.{Ended}
-use Rattle.checker.specs.declared.running.Ended.TheVariants.{Verified as EndsVerified, Unreadable as EndsUnreadable, Refused as EndsRefused, Unfinished as EndsUnfinished, TooShort as EndsTooShort}
+use Rattle.checker.specs.declared.running.Finish.{Finish}
+use Rattle.checker.specs.declared.running.Finish.TheVariants.{Verified as EndsVerified, Unfinished as EndsUnfinished}
+use Rattle.checker.specs.declared.running.Stop.{Stop}
+use Rattle.checker.specs.declared.Work.{Work}
+use Rattle.stepping.specs.declared.Failure.{Failure}
+use Rattle.stepping.specs.declared.Failure.TheVariants.{Refused as IsRefused, TooShort as IsTooShort, Unreadable as IsUnreadable}
 
--- The answer, by how the run ended: the ground is dropped here.
-abbrev pub answer_by : Ended → Answer
-answer_by (EndsVerified k) = Verified k
-answer_by (EndsUnreadable k) = UnreadableStep k
-answer_by (EndsRefused k g) = Refused k
-answer_by (EndsUnfinished k) = Unfinished k
-answer_by EndsTooShort = TooShort
+-- The answer, where a step was not taken: the ground is dropped here.
+abbrev pub stopped_by : ℕ → Failure → Answer
+stopped_by k (IsRefused g) = Refused k
+stopped_by k IsTooShort = TooShort
+stopped_by k IsUnreadable = UnreadableStep k
+
+-- The answer, by how the run ended.
+abbrev pub answer_by : Result Finish Stop → Answer
+answer_by (Ok (EndsVerified k)) = Verified k
+answer_by (Ok (EndsUnfinished k)) = Unfinished k
+answer_by (Err x) = stopped_by x.step x.why
+
+-- The answer, where the formula was not read.
+abbrev pub unread_by : Fault → Answer
+unread_by NotReadable = UnreadableFormula
+unread_by NoRoom = TooShort
 
 -- How many of so many marks are used: an even number, and all that any literal can need.
 pub record Cells (marks r : ℕ) : Type 0 where
@@ -80,3 +95,18 @@ pub record ChecksMarked (f p heads lits hints marks tape : List ℕ) (a : Answer
   pub short : a ≡ TooShort → Short f p heads lits hints tape (length marks)
   pub least : step_of a ≤ turns
   pub most : turns ≤ time_bound (length f) (length p)
+
+-- The parts of the work store are still the slices that were lent, each as long as it was.
+pub record Lent (w w' : Work) : Type 0 where
+  pub heads : length w'.heads.now ≡ length w.heads.now
+  pub lits : length w'.lits.now ≡ length w.lits.now
+  pub hints : length w'.hints.now ≡ length w.hints.now
+  pub guess : length w'.guess.now ≡ length w.guess.now
+  pub marks : length w'.marks.now ≡ length w.marks.now
+  pub tape : length w'.tape.now ≡ length w.tape.now
+  pub same_heads : w'.heads.ghost_name ≡ w.heads.ghost_name
+  pub same_lits : w'.lits.ghost_name ≡ w.lits.ghost_name
+  pub same_hints : w'.hints.ghost_name ≡ w.hints.ghost_name
+  pub same_guess : w'.guess.ghost_name ≡ w.guess.ghost_name
+  pub same_marks : w'.marks.ghost_name ≡ w.marks.ghost_name
+  pub same_tape : w'.tape.ghost_name ≡ w.tape.ghost_name

@@ -1,68 +1,44 @@
 -- What the run over a proof's steps comes to, in terms of document 01's `run` (rules' Answers).
-use Rattle.std.specs.Prelude.{ℕ, suc, ◌+◌, ◌*◌, ◌≡◌, Bool, true, false, List, length}
+use Rattle.std.specs.Prelude.{ℕ, suc, ◌+◌, ◌*◌, ◌≡◌, Result, Ok, Err, List, length}
 use Rattle.rules.specs.Text.{Token, tokens}
 use Rattle.rules.specs.Judging.{State}
 use Rattle.rules.specs.Answers.{Ending, ends_verified, ends_unreadable_step, ends_refused, ends_unfinished, run}
 use Rattle.stepping.specs.Stepping.{refusal_of, state_at, rate}
 use Rattle.stepping.specs.declared.Between.{Between}
-use Rattle.stepping.specs.declared.Outcome.{Outcome}
-use Rattle.stepping.specs.declared.Outcome.TheVariants.{On, Verified, Refused, TooShort, Unreadable, Nothing}
+use Rattle.stepping.specs.declared.Failure.{Failure}
+use Rattle.stepping.specs.declared.Failure.TheVariants.{Refused, TooShort, Unreadable}
 use Rattle.checker.specs.Promises.{ShortAt}
-use Rattle.checker.specs.declared.running.Ended.{Ended}
-use Rattle.checker.specs.declared.running.Ended.TheVariants.{Verified as EndsVerified, Unreadable as EndsUnreadable, Refused as EndsRefused, Unfinished as EndsUnfinished, TooShort as EndsTooShort}
-
--- No step is taken behind one that came to this.
-abbrev pub stops_at : Outcome → Bool
-stops_at (On b) = false
-stops_at Verified = true
-stops_at (Refused g) = true
-stops_at TooShort = true
-stops_at Unreadable = true
-stops_at Nothing = true
-
--- How the run ended, where so many steps were done and the next came to this.
-abbrev pub ended_by : Outcome → ℕ → Ended
-ended_by (On b) k = EndsTooShort
-ended_by Verified k = EndsVerified (k + 1)
-ended_by (Refused g) k = EndsRefused (k + 1) g
-ended_by TooShort k = EndsTooShort
-ended_by Unreadable k = EndsUnreadable (k + 1)
-ended_by Nothing k = EndsUnfinished k
-
--- What is known behind a step.
-abbrev pub onward_of : Outcome → Between → Between
-onward_of (On b') b = b'
-onward_of Verified b = b
-onward_of (Refused g) b = b
-onward_of TooShort b = b
-onward_of Unreadable b = b
-onward_of Nothing b = b
+use Rattle.checker.specs.declared.running.Finish.{Finish}
+use Rattle.checker.specs.declared.running.Finish.TheVariants.{Verified, Unfinished}
+use Rattle.checker.specs.declared.running.Stop.{Stop}
 
 -- How many steps were counted.
-abbrev pub steps_of : Ended → ℕ
-steps_of (EndsVerified k) = k
-steps_of (EndsUnreadable k) = k
-steps_of (EndsRefused k g) = k
-steps_of (EndsUnfinished k) = k
-steps_of EndsTooShort = 0
+abbrev pub steps_of : Result Finish Stop → ℕ
+steps_of (Ok (Verified k)) = k
+steps_of (Ok (Unfinished k)) = k
+steps_of (Err x) = x.step
 
 -- The end of a run by the document, from a state on, with as much fuel as `checked` starts with.
 abbrev pub run_from : ℕ → State → List Token → Ending
 run_from k s ts = run (suc (length ts)) k s ts
 
--- How the run ended, by the answer.
-abbrev pub EndedCase : State → List Token → List ℕ → List ℕ → List ℕ → List ℕ → ℕ → ℕ → Ended → Type 0
-EndedCase s ts heads lits hints tape cells all (EndsVerified k) = run_from 0 s ts ≡ ends_verified k
-EndedCase s ts heads lits hints tape cells all (EndsUnreadable k) = run_from 0 s ts ≡ ends_unreadable_step k
-EndedCase s ts heads lits hints tape cells all (EndsRefused k g) = run_from 0 s ts ≡ ends_refused k (refusal_of g)
-EndedCase s ts heads lits hints tape cells all (EndsUnfinished k) = run_from 0 s ts ≡ ends_unfinished k
-EndedCase s ts heads lits hints tape cells all EndsTooShort = ShortAt heads lits hints tape cells s ts all
+-- Why the run stopped at the k-th step.
+abbrev pub StopCase : State → List Token → List ℕ → List ℕ → List ℕ → List ℕ → ℕ → ℕ → ℕ → Failure → Type 0
+StopCase s ts heads lits hints tape cells all k (Refused g) = run_from 0 s ts ≡ ends_refused k (refusal_of g)
+StopCase s ts heads lits hints tape cells all k TooShort = ShortAt heads lits hints tape cells s ts all
+StopCase s ts heads lits hints tape cells all k Unreadable = run_from 0 s ts ≡ ends_unreadable_step k
+
+-- How the run ended.
+abbrev pub EndedCase : State → List Token → List ℕ → List ℕ → List ℕ → List ℕ → ℕ → ℕ → Result Finish Stop → Type 0
+EndedCase s ts heads lits hints tape cells all (Ok (Verified k)) = run_from 0 s ts ≡ ends_verified k
+EndedCase s ts heads lits hints tape cells all (Ok (Unfinished k)) = run_from 0 s ts ≡ ends_unfinished k
+EndedCase s ts heads lits hints tape cells all (Err x) = StopCase s ts heads lits hints tape cells all x.step x.why
 
 -- So many clauses, literals and tokens there are in all.
 abbrev pub all_of : List ℕ → Between → ℕ
 all_of proof b = b.n + b.used + length (tokens proof)
 
-pub record RunsTo (proof : List ℕ) (b : Between) (heads lits hints marks tape : List ℕ) (e : Ended) : Type 0 where
+pub record RunsTo (proof : List ℕ) (b : Between) (heads lits hints marks tape : List ℕ) (e : Result Finish Stop) : Type 0 where
   pub case : EndedCase (state_at heads lits b) (tokens proof) heads lits hints tape (length marks) (all_of proof b) e
 
 -- The most turns that a proof takes behind a store of so many clauses and literals.

@@ -10,13 +10,26 @@
 pub mod running;
 
 ghost use Rattle.std.specs.Prelude.{◌≡◌, ◌+◌, ◌%◌, ◌≤◌, length};
+ghost use Rattle.stepping.specs.Stepping.{Lent as BenchLent};
 ghost use Rattle.checker.specs.Promises.{Exact, Means, Room, FollowsLive, time_bound, step_of};
 ghost use Rattle.checker.specs.Running.{proof_turns};
-ghost use Rattle.checker.specs.Answering.{answer_by, Cells, Cleared, Charged, HasMarks, Begun, Answers, ChecksMarked};
+ghost use Rattle.checker.specs.Answering.{answer_by, unread_by, Cells, Cleared, Charged, HasMarks, Begun, Answers, ChecksMarked, Lent};
 
-use formula::FormulaRead;
-use running::Ended;
-use stepping::Between;
+use assignment::Assignment;
+use formula::{Fault, Stored};
+use running::{Finish, Stop};
+use stepping::{Bench, Between, Failure};
+
+// The parts of the work store.
+#[derive(Drop)]
+pub struct Work<'a> {
+    pub heads: &'a mut [u32],
+    pub lits: &'a mut [u32],
+    pub hints: &'a mut [u32],
+    pub guess: &'a mut [u32],
+    pub marks: &'a mut [u8],
+    pub tape: &'a mut [u32],
+}
 
 // The answers of document 01, section 1.
 #[derive(Clone, Copy)]
@@ -29,6 +42,21 @@ pub enum Answer {
     TooShort,
 }
 
+impl Answer {
+    // The number of the step that an answer comes with, or 0.
+    pub fn step(self) -> u64
+        ensures { result ≡ step_of self }
+    {
+        match self {
+            Answer::Verified { step }
+            | Answer::UnreadableStep { step }
+            | Answer::Refused { step }
+            | Answer::Unfinished { steps: step } => step,
+            Answer::UnreadableFormula | Answer::TooShort => 0,
+        }
+    }
+}
+
 // An answer, and the number of turns that the loops made for it.
 #[derive(Clone, Copy)]
 pub struct Checked {
@@ -36,16 +64,32 @@ pub struct Checked {
     pub turns: u64,
 }
 
-// The answer, by how the run ended.
-fn answer_by(e: Ended) -> Answer
-    ensures { result ≡ answer_by e }
-{
-    match e {
-        Ended::Verified(step) => Answer::Verified { step: step },
-        Ended::Unreadable(step) => Answer::UnreadableStep { step: step },
-        Ended::Refused { step, ground } => Answer::Refused { step: step },
-        Ended::Unfinished(steps) => Answer::Unfinished { steps: steps },
-        Ended::TooShort => Answer::TooShort,
+// By how the run ended: the ground of a refusal is dropped here.
+impl From<Result<Finish, Stop>> for Answer {
+    ghost from_gives = { λ ended answer. answer ≡ answer_by ended };
+
+    fn from(ended: Result<Finish, Stop>) -> Answer {
+        match ended {
+            Ok(Finish::Verified { step }) => Answer::Verified { step },
+            Ok(Finish::Unfinished { steps }) => Answer::Unfinished { steps },
+            Err(Stop { step, why }) => match why {
+                Failure::Refused(_) => Answer::Refused { step },
+                Failure::TooShort => Answer::TooShort,
+                Failure::Unreadable => Answer::UnreadableStep { step },
+            },
+        }
+    }
+}
+
+// By why the formula was not read.
+impl From<Fault> for Answer {
+    ghost from_gives = { λ fault answer. answer ≡ unread_by fault };
+
+    fn from(fault: Fault) -> Answer {
+        match fault {
+            Fault::Unreadable => Answer::UnreadableFormula,
+            Fault::TooShort => Answer::TooShort,
+        }
     }
 }
 
@@ -53,24 +97,15 @@ fn answer_by(e: Ended) -> Answer
 fn cells(marks: usize) -> usize
     ensures { Cells marks result }
 {
-    if 33554432 <= marks {
-        return 33554432;
-    }
-    2 * (marks / 2)
+    2 * (usize::min(marks, 33554432) / 2)
 }
 
-// No mark is set. Returns the turns.
+// No mark is set. Returns the turns, one for each.
 fn clear(marks: &mut [u8]) -> u64
     ensures { Cleared marks.new × (result ≡ length marks.old) }
 {
-    let mut i = 0;
-    let mut turns: u64 = 0;
-    while i < marks.len() {
-        marks[i] = 0;
-        i += 1;
-        turns += 1;
-    }
-    turns
+    marks.fill(0);
+    marks.len() as u64
 }
 
 // The turns of reading a formula of so many bytes, of which so many literals and clauses were stored: a byte is passed up to four
@@ -78,142 +113,103 @@ fn clear(marks: &mut [u8]) -> u64
 fn reading(bytes: usize, used: usize, closed: usize) -> u64
     ensures { Charged bytes used closed result }
 {
-    let b = clauses::count(bytes);
-    let u = clauses::count(used);
-    let c = clauses::count(closed);
-    let twice = clauses::plus(b, b);
-    let passed = clauses::plus(twice, twice);
-    let stored = clauses::plus(u, u);
-    let read = clauses::plus(c, c);
-    let sum = clauses::plus(passed, stored);
-    let all = clauses::plus(sum, read);
-    clauses::plus(all, 2)
+    let passed = (bytes as u64).saturating_mul(4);
+    let stored = (used as u64).saturating_mul(2);
+    let read = (closed as u64).saturating_mul(2);
+    clauses::plus(clauses::plus(passed, stored), clauses::plus(read, 2))
 }
 
 // Whether each of so many literals has a mark, where `top` is the greatest variable in them.
 fn has_marks(marks: usize, used: usize, top: u32) -> bool
     ensures { HasMarks marks used top result }
 {
-    if used == 0 {
-        return true;
-    }
-    let least = 2 * clauses::cell(top) + 1;
-    if least < marks {
-        return true;
-    }
-    false
+    used == 0 || 2 * (top as usize) + 1 < marks
 }
 
-// The formula lies in the store, as n clauses with so many literals, of which `top` is the greatest variable: its proof is
-// checked, behind so many turns.
-fn check_stored(
-    proof: &[u8],
-    heads: &mut [u32],
-    lits: &mut [u32],
-    hints: &mut [u32],
-    guess: &mut [u32],
-    marks: &mut [u8],
-    tape: &mut [u32],
-    n: usize,
-    used: usize,
-    top: u32,
-    before: u64,
-) -> Checked
-    requires { Begun heads.old lits.old marks.old n used top }
-    ensures answer { Answers proof.now heads.old lits.old hints.old marks.old tape.old n used result.answer }
+// The formula lies in the store: its proof is checked, behind so many turns.
+fn check_stored(proof: &[u8], bench: &mut Bench, stored: Stored, before: u64) -> Checked
+    requires { Begun bench.old.heads.now bench.old.lits.now bench.old.assignment.marks.now stored.clauses stored.used stored.top }
+    ensures answer { Answers proof.now bench.old.heads.now bench.old.lits.now bench.old.hints.now bench.old.assignment.marks.now bench.old.assignment.tape.now stored.clauses stored.used result.answer }
     ensures least { step_of result.answer ≤ result.turns }
-    ensures most { result.turns ≤ before + n + proof_turns proof.now (n + used) }
+    ensures most { result.turns ≤ before + stored.clauses + proof_turns proof.now (stored.clauses + stored.used) }
+    ensures lent { BenchLent bench.old bench.new }
 {
-    if !has_marks(marks.len(), used, top) {
+    if !has_marks(bench.assignment.marks.len(), stored.used, stored.top) {
         return Checked {
             answer: Answer::TooShort,
             turns: before,
         };
     }
-    let noted = clauses::note_all(heads, n, guess);
+    let noted = clauses::note_all(&mut *bench.heads, stored.clauses, bench.guess);
     let first = Between {
-        n: n,
-        used: used,
-        last: clauses::count(n),
+        n: stored.clauses,
+        used: stored.used,
+        last: stored.clauses as u64,
         dead: 0,
     };
-    let r = running::run(proof, first, heads, lits, hints, guess, marks, tape);
-    let e = r.ended;
-    let a = answer_by(e);
-    let turns = clauses::plus(clauses::plus(before, noted), r.turns);
+    let ran = running::run(proof, first, bench);
     Checked {
-        answer: a,
-        turns: turns,
+        answer: Answer::from(ran.value),
+        turns: clauses::plus(clauses::plus(before, noted), ran.turns),
     }
 }
 
-// As `check`, where there is an even number of marks, and no more than there are literals.
-fn check_marked(
+// As `check`, where there is an even number of marks, and no more than there are literals. It takes the parts one by one: tried, a `Work`
+// whose marks are a part of another's, and the borrow checker does not cover it.
+fn check_marked<'a>(
     formula: &[u8],
     proof: &[u8],
-    heads: &mut [u32],
-    lits: &mut [u32],
-    hints: &mut [u32],
-    guess: &mut [u32],
-    marks: &mut [u8],
-    tape: &mut [u32],
+    heads: &'a mut [u32],
+    lits: &'a mut [u32],
+    hints: &'a mut [u32],
+    guess: &'a mut [u32],
+    marks: &'a mut [u8],
+    tape: &'a mut [u32],
 ) -> Checked
     requires { (length marks.old % 2 ≡ 0) × (length marks.old ≤ 33554432) }
     ensures { ChecksMarked formula.now proof.now heads.old lits.old hints.old marks.old tape.old result.answer result.turns }
 {
     let cleared = clear(marks);
     let bytes = formula.len();
-    let r = formula::read(formula, heads, lits);
-    match r {
-        FormulaRead::Stored {
-            vars,
-            clauses,
-            used,
-            top,
-        } => {
-            let turns = clauses::plus(cleared, reading(bytes, used, clauses));
-            check_stored(
-                proof, heads, lits, hints, guess, marks, tape, clauses, used, top, turns,
-            )
+    match formula::read(formula, heads, lits) {
+        Ok(stored) => {
+            let turns = clauses::plus(cleared, reading(bytes, stored.used, stored.clauses));
+            let assignment = Assignment { marks, tape, t: 0 };
+            let mut bench = Bench {
+                heads,
+                lits,
+                hints,
+                guess,
+                assignment,
+            };
+            check_stored(proof, &mut bench, stored, turns)
         }
-        FormulaRead::Unreadable { at, used, closed } => Checked {
-            answer: Answer::UnreadableFormula,
-            turns: clauses::plus(cleared, reading(bytes, used, closed)),
-        },
-        FormulaRead::TooShort { at, used, closed } => Checked {
-            answer: Answer::TooShort,
-            turns: clauses::plus(cleared, reading(bytes, used, closed)),
+        Err(stopped) => Checked {
+            answer: Answer::from(stopped.fault),
+            turns: clauses::plus(cleared, reading(bytes, stopped.used, stopped.closed)),
         },
     }
 }
 
 // Checks a proof against a formula.
-pub fn check(
-    formula: &[u8],
-    proof: &[u8],
-    heads: &mut [u32],
-    lits: &mut [u32],
-    hints: &mut [u32],
-    guess: &mut [u32],
-    marks: &mut [u8],
-    tape: &mut [u32],
-) -> Checked
+pub fn check(formula: &[u8], proof: &[u8], work: &mut Work) -> Checked
     ensures exact { Exact formula.now proof.now result.answer }
     ensures unsolvable { Means formula.now result.answer }
-    ensures room { Room formula.now proof.now heads.old lits.old hints.old marks.old tape.old result.answer }
-    ensures live { FollowsLive formula.now proof.now heads.old lits.old hints.old marks.old tape.old result.answer }
+    ensures room { Room formula.now proof.now work.old.heads.now work.old.lits.now work.old.hints.now work.old.marks.now work.old.tape.now result.answer }
+    ensures live { FollowsLive formula.now proof.now work.old.heads.now work.old.lits.now work.old.hints.now work.old.marks.now work.old.tape.now result.answer }
     ensures time { result.turns ≤ time_bound (length formula.now) (length proof.now) }
     ensures steps { step_of result.answer ≤ result.turns }
+    ensures lent { Lent work.old work.new }
 {
-    let used = cells(marks.len());
+    let used = cells(work.marks.len());
     check_marked(
         formula,
         proof,
-        heads,
-        lits,
-        hints,
-        guess,
-        &mut marks[..used],
-        tape,
+        work.heads,
+        work.lits,
+        work.hints,
+        work.guess,
+        &mut work.marks[..used],
+        work.tape,
     )
 }

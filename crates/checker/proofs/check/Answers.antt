@@ -1,9 +1,7 @@
 -- `check` meets its contract. Assumes nothing.
-use Rattle.checker.proofs.Promising.{cells-long, cells_fit, promises}
+use Rattle.std.proofs.Common.{rules}
+use Rattle.checker.proofs.Promising.{cells_fit, promises}
 use Rattle.checker.proofs.check.Goals as goal
-
-pub slice_bounds-check_marked-end-2 : goal.slice_bounds-check_marked-end-2
-slice_bounds-check_marked-end-2 c = cells-long _ _ c.cells-used.ensures
 
 pub check_marked-requires : goal.check_marked-requires
 check_marked-requires c = cells_fit _ _ c.cells-used.ensures
@@ -11,4 +9,4 @@ check_marked-requires c = cells_fit _ _ c.cells-used.ensures
 pub returns : goal.returns
 returns c =
     let all = promises _ _ _ _ _ _ _ _ c.cells-used.ensures _ _ c.check_marked.ensures in
-    record { exact = all.0; unsolvable = all.1.0; room = all.1.1.0; live = all.1.1.1.0; time = all.1.1.1.1.0; steps = all.1.1.1.1.1 }
+    record { exact = all.0; unsolvable = all.1.0; room = all.1.1.0; live = all.1.1.1.0; time = all.1.1.1.1.0; steps = all.1.1.1.1.1; lent = search rules }

@@ -4,5 +4,5 @@ use Rattle.checker.proofs.reading.Goals as goal
 
 pub returns : goal.returns
 returns c =
-    charged_by _ _ _ _ _ _ _ _ _ _ _ _ _ c.count-b.ensures c.count-u.ensures c.count-c.ensures c.plus-twice.ensures c.plus-passed.ensures
-    c.plus-stored.ensures c.plus-read.ensures c.plus-sum.ensures c.plus-all.ensures c.plus.ensures
+    charged_by _ _ _ _ _ _ _ _ _ c.saturating_mul-passed.ensures c.saturating_mul-stored.ensures c.saturating_mul-read.ensures
+    c.plus.ensures c.plus-2.ensures c.plus-3.ensures

@@ -5,9 +5,8 @@ use Rattle.rules.specs.Text.{tokens}
 use Rattle.checker.proofs.Runs.{Running}
 use Rattle.checker.proofs.running.run.Given as goal
 
-abbrev pub invariant-loop-b : goal.invariant-loop-b
-invariant-loop-b l =
-    Running l.proof l.initial.b l.initial.heads l.initial.lits l.initial.hints l.initial.guess l.initial.marks l.initial.tape l.heads l.lits l.hints l.guess l.marks l.tape l.at l.done l.turns l.b
+abbrev pub invariant-loop-after : goal.invariant-loop-after
+invariant-loop-after l = Running l.proof l.initial.known l.initial.bench l.bench l.at l.done l.turns l.known
 
-abbrev pub decreases-loop-b : goal.decreases-loop-b
-decreases-loop-b l = length (tokens (drop l.at l.proof))
+abbrev pub decreases-loop-after : goal.decreases-loop-after
+decreases-loop-after l = length (tokens (drop l.at l.proof))
