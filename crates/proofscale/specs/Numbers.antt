@@ -1,10 +1,10 @@
 -- Answers as the numbers of document 01, section 1, and the promises of `check` and `write` in terms of them.
-use Rattle.std.specs.Prelude.{ℕ, ◌≡◌, ◌⊎◌, List, length}
+use Rattle.std.specs.Prelude.{ℕ, ◌≡◌, ◌⊎◌, List, Result, Ok, Err, length}
 use Rattle.std.proofs.Math.Option.{Option, none, some}
 use Rattle.rules.specs.Answers.{answer_number, answer_step, verdict, Refuted}
 use Rattle.formula.specs.Writing.{Writes}
-use Rattle.formula.specs.declared.FormulaWritten.{FormulaWritten}
-use Rattle.formula.specs.declared.FormulaWritten.TheVariants.{Whole, Unreadable, StoreTooShort, OutputTooShort}
+use Rattle.formula.specs.declared.NotWritten.{NotWritten}
+use Rattle.formula.specs.declared.NotWritten.TheVariants.{Unreadable, StoreTooShort, OutputTooShort}
 use Rattle.checker.specs.Promises.{Enough, Short}
 use Rattle.checker.specs.declared.Answer.{Answer}
 use Rattle.checker.specs.declared.Answer.TheVariants.{Verified, UnreadableFormula, UnreadableStep, Refused, Unfinished, TooShort}
@@ -39,20 +39,20 @@ abbrev pub LiveNumber : List ℕ → List ℕ → List ℕ → List ℕ → List
 LiveNumber f p heads lits hints marks tape r = r ≡ 5 → Short f p heads lits hints tape (length marks)
 
 -- What writing a formula came to.
-abbrev pub written_number : FormulaWritten → ℕ
-written_number (Whole n) = 0
-written_number (Unreadable at) = 1
-written_number (StoreTooShort at) = 5
-written_number OutputTooShort = 6
+abbrev pub written_number : Result ℕ NotWritten → ℕ
+written_number (Ok n) = 0
+written_number (Err (Unreadable at)) = 1
+written_number (Err (StoreTooShort at)) = 5
+written_number (Err OutputTooShort) = 6
 
-abbrev pub written_length : FormulaWritten → ℕ
-written_length (Whole n) = n
-written_length (Unreadable at) = at
-written_length (StoreTooShort at) = at
-written_length OutputTooShort = 0
+abbrev pub written_length : Result ℕ NotWritten → ℕ
+written_length (Ok n) = n
+written_length (Err (Unreadable at)) = at
+written_length (Err (StoreTooShort at)) = at
+written_length (Err OutputTooShort) = 0
 
 pub record WritesNumbers (f heads lits out out' : List ℕ) (r n : ℕ) : Type 0 where
-  pub written : FormulaWritten
+  pub written : Result ℕ NotWritten
   pub writes : Writes f heads lits out out' written
   pub is : r ≡ written_number written
   pub long : n ≡ written_length written

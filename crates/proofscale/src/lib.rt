@@ -4,11 +4,11 @@
 #![tactic(auto)]
 
 ghost use Rattle.std.specs.Prelude.{◌≡◌, ◌≤◌, length};
-ghost use Rattle.checker.specs.Promises.{step_of, time_bound};
+ghost use Rattle.checker.specs.Promises.{time_bound};
 ghost use Rattle.proofscale.specs.Numbers.{number_of, ExactNumbers, MeansNumber, RoomNumber, LiveNumber, written_number, written_length, WritesNumbers};
 
-use checker::Answer;
-use formula::FormulaWritten;
+use checker::{Answer, Work};
+use formula::NotWritten;
 
 // The number that document 01 gives an answer.
 fn number(a: Answer) -> u64
@@ -21,20 +21,6 @@ fn number(a: Answer) -> u64
         Answer::Refused { step } => 3,
         Answer::Unfinished { steps } => 4,
         Answer::TooShort => 5,
-    }
-}
-
-// The number of the step that comes with it, or 0.
-fn step_number(a: Answer) -> u64
-    ensures { result ≡ step_of a }
-{
-    match a {
-        Answer::Verified { step } => step,
-        Answer::UnreadableFormula => 0,
-        Answer::UnreadableStep { step } => step,
-        Answer::Refused { step } => step,
-        Answer::Unfinished { steps } => steps,
-        Answer::TooShort => 0,
     }
 }
 
@@ -59,34 +45,40 @@ pub extern "C" fn proofscale_check(
     ensures time { turns.new ≤ time_bound (length formula.now) (length proof.now) }
     ensures steps { step.new ≤ turns.new }
 {
-    let r = checker::check(formula, proof, heads, lits, hints, guess, marks, tape);
-    let a = r.answer;
-    *step = step_number(a);
-    *turns = r.turns;
-    number(a)
+    let mut work = Work {
+        heads,
+        lits,
+        hints,
+        guess,
+        marks,
+        tape,
+    };
+    let checked = checker::check(formula, proof, &mut work);
+    *step = checked.answer.step();
+    *turns = checked.turns;
+    number(checked.answer)
 }
 
 // The number of what writing came to: that of the answer, and 6 where the output is too short.
-fn written_number(w: FormulaWritten) -> u64
-    ensures { result ≡ written_number w }
+fn written_number(written: Result<usize, NotWritten>) -> u64
+    ensures { result ≡ written_number written }
 {
-    match w {
-        FormulaWritten::Whole { length } => 0,
-        FormulaWritten::Unreadable { at } => 1,
-        FormulaWritten::StoreTooShort { at } => 5,
-        FormulaWritten::OutputTooShort => 6,
+    match written {
+        Ok(_) => 0,
+        Err(NotWritten::Unreadable { at }) => 1,
+        Err(NotWritten::StoreTooShort { at }) => 5,
+        Err(NotWritten::OutputTooShort) => 6,
     }
 }
 
 // How many bytes were written, or the place in the formula where it stopped.
-fn written_length(w: FormulaWritten) -> u64
-    ensures { result ≡ written_length w }
+fn written_length(written: Result<usize, NotWritten>) -> u64
+    ensures { result ≡ written_length written }
 {
-    match w {
-        FormulaWritten::Whole { length } => clauses::count(length),
-        FormulaWritten::Unreadable { at } => clauses::count(at),
-        FormulaWritten::StoreTooShort { at } => clauses::count(at),
-        FormulaWritten::OutputTooShort => 0,
+    match written {
+        Ok(length) => length as u64,
+        Err(NotWritten::Unreadable { at } | NotWritten::StoreTooShort { at }) => at as u64,
+        Err(NotWritten::OutputTooShort) => 0,
     }
 }
 
@@ -101,7 +93,7 @@ pub extern "C" fn proofscale_write(
 ) -> u64
     ensures { WritesNumbers formula.now heads.old lits.old out.old out.new result length.new }
 {
-    let w = formula::write(formula, heads, lits, out);
-    *length = written_length(w);
-    written_number(w)
+    let written = formula::write(formula, heads, lits, out);
+    *length = written_length(written);
+    written_number(written)
 }
