@@ -6,17 +6,18 @@
 // from the document and docs/DECISIONS.md, in another language; they are for a store that is long enough.
 #![tactic(auto)]
 
-ghost use Rattle.std.specs.Prelude.{◌≡◌, length, IfOk, IfSome};
+ghost use Rattle.std.specs.Prelude.{◌≡◌, length, IfOk};
 ghost use Rattle.io.specs.Counts.{IsPrefixLen};
 
-use checker::Answer;
-use std::env::{Env, FillError};
-use std::fs::File;
-use std::io::{Error, ErrorKind, Read, Result, Write, writer};
+use checker::{Answer, Work};
+use std::io::{Result, Write, writer};
 
-fn say(rt: &HostRuntime, text: &[u8]) -> Result<()> {
-    let mut to = writer(rt);
-    to.write_all(text)
+// A pair of files, and what document 01 says of it.
+#[derive(Clone, Copy)]
+struct Case<'a> {
+    formula: &'a [u8],
+    proof: &'a [u8],
+    expected: &'a [u8],
 }
 
 // Puts text behind the first n bytes of out, as far as there is room, and returns how many bytes there are then.
@@ -26,24 +27,16 @@ fn append(out: &mut [u8], n: usize, text: &[u8]) -> usize
     if out.len() < n {
         return 0;
     }
-    let mut end = n;
-    let mut i = 0;
-    while i < text.len() {
-        if end >= out.len() {
-            break;
-        }
-        out[end] = text[i];
-        end += 1;
-        i += 1;
-    }
-    end
+    let more = text.len().min(out.len() - n);
+    out[n..n + more].copy_from_slice(&text[..more]);
+    n + more
 }
 
 // Whether the answer with this number and this step is written as expected.
 fn is_expected(number: &[u8], step: u64, expected: &[u8]) -> bool {
-    let mut digits = [0u8; 20];
+    let mut digits = [0; 20];
     let k = io::decimal(step, &mut digits);
-    let mut text = [0u8; 40];
+    let mut text = [0; 40];
     let mut n = append(&mut text, 0, number);
     n = append(&mut text, n, b" ");
     n = append(&mut text, n, &digits[..k]);
@@ -53,238 +46,101 @@ fn is_expected(number: &[u8], step: u64, expected: &[u8]) -> bool {
 
 fn say_whether(rt: &HostRuntime, good: bool, expected: &[u8]) -> Result<()> {
     if good {
-        return say(rt, b", as expected\n");
+        return println!(rt; ", as expected");
     }
-    say(rt, b", DIFFERS from ")?;
-    say(rt, expected)
+    print!(rt; ", DIFFERS from ")?;
+    writer(rt).write_all(expected)
 }
 
-fn say_step(rt: &HostRuntime, number: &[u8], step: u64, expected: &[u8]) -> Result<()> {
-    say(rt, b": answer ")?;
-    say(rt, number)?;
-    print!(rt; " step {step}")?;
-    say_whether(rt, is_expected(number, step, expected), expected)
-}
-
-fn say_unreadable(rt: &HostRuntime, expected: &[u8]) -> Result<()> {
-    say(rt, b": answer 1")?;
-    say_whether(rt, expected == b"1\n".as_slice(), expected)
+fn say_step(rt: &HostRuntime, number: &str, step: u64, expected: &[u8]) -> Result<()> {
+    print!(rt; ": answer {number} step {step}")?;
+    say_whether(rt, is_expected(number.as_bytes(), step, expected), expected)
 }
 
 fn show(rt: &HostRuntime, a: Answer, expected: &[u8]) -> Result<()> {
     match a {
-        Answer::Verified { step } => say_step(rt, b"0", step, expected),
-        Answer::UnreadableFormula => say_unreadable(rt, expected),
-        Answer::UnreadableStep { step } => say_step(rt, b"2", step, expected),
-        Answer::Refused { step } => say_step(rt, b"3", step, expected),
-        Answer::Unfinished { steps } => say_step(rt, b"4", steps, expected),
-        Answer::TooShort => say(rt, b": answer 5\n"),
+        Answer::Verified { step } => say_step(rt, "0", step, expected),
+        Answer::UnreadableFormula => {
+            print!(rt; ": answer 1")?;
+            say_whether(rt, expected == b"1\n".as_slice(), expected)
+        }
+        Answer::UnreadableStep { step } => say_step(rt, "2", step, expected),
+        Answer::Refused { step } => say_step(rt, "3", step, expected),
+        Answer::Unfinished { steps } => say_step(rt, "4", steps, expected),
+        Answer::TooShort => println!(rt; ": answer 5"),
     }
 }
 
-fn step_of(a: Answer) -> u64 {
-    match a {
-        Answer::Verified { step } => step,
-        Answer::UnreadableFormula => 0,
-        Answer::UnreadableStep { step } => step,
-        Answer::Refused { step } => step,
-        Answer::Unfinished { steps } => steps,
-        Answer::TooShort => 0,
-    }
-}
-
-// A step takes a turn at least.
-fn say_turns(rt: &HostRuntime, step: u64, turns: u64) -> Result<()> {
-    if turns < step {
-        return say(rt, b"    DIFFERS: fewer turns than steps\n");
+// Checks with this store, says what came of it, and that a step takes a turn at least.
+fn show_checked(rt: &HostRuntime, case: Case, work: &mut Work) -> Result<()> {
+    let r = checker::check(case.formula, case.proof, work);
+    let a = r.answer;
+    show(rt, a, case.expected)?;
+    if r.turns < a.step() {
+        return println!(rt; "    DIFFERS: fewer turns than steps");
     }
     Ok(())
 }
 
-// Checks with this store, and says what came of it.
-fn checked(
-    rt: &HostRuntime,
-    formula: &[u8],
-    proof: &[u8],
-    expected: &[u8],
-    heads: &mut [u32],
-    lits: &mut [u32],
-    hints: &mut [u32],
-    guess: &mut [u32],
-    marks: &mut [u8],
-    tape: &mut [u32],
-) -> Result<()> {
-    let r = checker::check(formula, proof, heads, lits, hints, guess, marks, tape);
-    let a = r.answer;
-    show(rt, a, expected)?;
-    say_turns(rt, step_of(a), r.turns)
-}
-
 // With a store that always does for two files of 4,096 bytes each with variables up to 2,047. What is in it before does not
 // matter.
-fn with_room(rt: &HostRuntime, formula: &[u8], proof: &[u8], expected: &[u8]) -> Result<()> {
-    let mut heads = [4294967295u32; 12450];
-    let mut lits = [1u32; 4200];
-    let mut hints = [4294967295u32; 2100];
-    let mut guess = [7u32; 600];
-    let mut marks = [255u8; 4096];
-    let mut tape = [3u32; 8300];
-    checked(
-        rt, formula, proof, expected, &mut heads, &mut lits, &mut hints, &mut guess, &mut marks,
-        &mut tape,
-    )
+fn with_room(rt: &HostRuntime, case: Case) -> Result<()> {
+    let mut work = Work {
+        heads: &mut [4294967295; 12450],
+        lits: &mut [1; 4200],
+        hints: &mut [4294967295; 2100],
+        guess: &mut [7; 600],
+        marks: &mut [255; 4096],
+        tape: &mut [3; 8300],
+    };
+    show_checked(rt, case, &mut work)
 }
 
 // With a store for two dozen short clauses with variables up to 9.
-fn with_little(rt: &HostRuntime, formula: &[u8], proof: &[u8], expected: &[u8]) -> Result<()> {
-    let mut heads = [0u32; 78];
-    let mut lits = [0u32; 64];
-    let mut hints = [0u32; 24];
-    let mut guess = [0u32; 5];
-    let mut marks = [0u8; 20];
-    let mut tape = [0u32; 64];
-    say(rt, b"    with little room")?;
-    checked(
-        rt, formula, proof, expected, &mut heads, &mut lits, &mut hints, &mut guess, &mut marks,
-        &mut tape,
-    )
+fn with_little(rt: &HostRuntime, case: Case) -> Result<()> {
+    print!(rt; "    with little room")?;
+    let mut work = Work {
+        heads: &mut [0; 78],
+        lits: &mut [0; 64],
+        hints: &mut [0; 24],
+        guess: &mut [0; 5],
+        marks: &mut [0; 20],
+        tape: &mut [0; 64],
+    };
+    show_checked(rt, case, &mut work)
 }
 
-// With a store of which one part after the other is short.
-fn with_parts(rt: &HostRuntime, formula: &[u8], proof: &[u8], expected: &[u8]) -> Result<()> {
-    let mut heads = [0u32; 78];
-    let mut lits = [0u32; 64];
-    let mut hints = [0u32; 24];
-    let mut guess = [0u32; 5];
-    let mut marks = [0u8; 20];
-    let mut tape = [0u32; 64];
-    let mut few_heads = [0u32; 31];
-    let mut few_lits = [0u32; 26];
-    let mut few_hints = [0u32; 3];
-    let mut few_guesses = [0u32; 0];
-    let mut few_marks = [0u8; 9];
-    let mut few_noted = [0u32; 2];
-    say(rt, b"with few heads")?;
-    checked(
-        rt,
-        formula,
-        proof,
-        expected,
-        &mut few_heads,
-        &mut lits,
-        &mut hints,
-        &mut guess,
-        &mut marks,
-        &mut tape,
-    )?;
-    say(rt, b"with few literals")?;
-    checked(
-        rt,
-        formula,
-        proof,
-        expected,
-        &mut heads,
-        &mut few_lits,
-        &mut hints,
-        &mut guess,
-        &mut marks,
-        &mut tape,
-    )?;
-    say(rt, b"with few hints")?;
-    checked(
-        rt,
-        formula,
-        proof,
-        expected,
-        &mut heads,
-        &mut lits,
-        &mut few_hints,
-        &mut guess,
-        &mut marks,
-        &mut tape,
-    )?;
-    say(rt, b"with no guesses")?;
-    checked(
-        rt,
-        formula,
-        proof,
-        expected,
-        &mut heads,
-        &mut lits,
-        &mut hints,
-        &mut few_guesses,
-        &mut marks,
-        &mut tape,
-    )?;
-    say(rt, b"with few marks")?;
-    checked(
-        rt,
-        formula,
-        proof,
-        expected,
-        &mut heads,
-        &mut lits,
-        &mut hints,
-        &mut guess,
-        &mut few_marks,
-        &mut tape,
-    )?;
-    say(rt, b"with a short tape")?;
-    checked(
-        rt,
-        formula,
-        proof,
-        expected,
-        &mut heads,
-        &mut lits,
-        &mut hints,
-        &mut guess,
-        &mut marks,
-        &mut few_noted,
-    )?;
-    say(rt, b"with all of it")?;
-    checked(
-        rt, formula, proof, expected, &mut heads, &mut lits, &mut hints, &mut guess, &mut marks,
-        &mut tape,
-    )
-}
-
-// Puts the file, or as much of it as there is room for, at the front of `text`, and returns how many bytes that is. Where reading
-// fails, `text` is as long as it was, and nothing is said of what is in it.
-fn read_full(file: &mut File, text: &mut [u8]) -> Result<usize>
-    ensures within { IfOk result (λ n. IsPrefixLen n text.new) }
-    ensures long { length text.new ≡ length text.old }
-{
-    let mut n = 0;
-    while n < text.len() {
-        let more = file.read(&mut text[n..])?;
-        if more == 0 {
-            break;
-        }
-        n += more;
+// With a store of which one part after the other is short, and the last time none. The parts are used again and again, whatever is
+// left in them.
+fn with_parts(rt: &HostRuntime, case: Case) -> Result<()> {
+    let mut heads = [0; 78];
+    let mut lits = [0; 64];
+    let mut hints = [0; 24];
+    let mut guess = [0; 5];
+    let mut marks = [0; 20];
+    let mut tape = [0; 64];
+    let short = [
+        "few heads",
+        "few literals",
+        "few hints",
+        "no guesses",
+        "few marks",
+        "a short tape",
+        "all of it",
+    ];
+    for (i, part) in short.iter().enumerate() {
+        print!(rt; "with {part}")?;
+        let mut work = Work {
+            heads: &mut heads[..if i == 0 { 31 } else { 78 }],
+            lits: &mut lits[..if i == 1 { 26 } else { 64 }],
+            hints: &mut hints[..if i == 2 { 3 } else { 24 }],
+            guess: &mut guess[..if i == 3 { 0 } else { 5 }],
+            marks: &mut marks[..if i == 4 { 9 } else { 20 }],
+            tape: &mut tape[..if i == 5 { 2 } else { 64 }],
+        };
+        show_checked(rt, case, &mut work)?;
     }
-    Ok(n)
-}
-
-// The file with this path, which has to be text. The kit's files have no other names.
-fn open(rt: &HostRuntime, path: &[u8]) -> Result<File> {
-    match str::from_utf8(path) {
-        Ok(path) => File::open(rt, path),
-        Err(_) => Err(Error::from(ErrorKind::InvalidInput)),
-    }
-}
-
-// Puts the argument, or as much of it as there is room for, at the front of `text`, and returns how many bytes that is, or nothing
-// where there is no such argument.
-fn argument(rt: &HostRuntime, i: usize, text: &mut [u8]) -> Option<usize>
-    ensures within { IfSome result (λ n. IsPrefixLen n text.new) }
-    ensures long { length text.new ≡ length text.old }
-{
-    match rt.arg(i, text) {
-        Ok(n) => Some(n),
-        Err(FillError::TooLong) => Some(text.len()),
-        Err(FillError::NotPresent) => None,
-    }
+    Ok(())
 }
 
 // Puts the file with this name and ending into text, and returns its length. Where it is not there, or reading fails, `text` is as
@@ -293,34 +149,39 @@ fn read_file(rt: &HostRuntime, name: &[u8], ending: &[u8], text: &mut [u8]) -> R
     ensures within { IfOk result (λ n. IsPrefixLen n text.new) }
     ensures long { length text.new ≡ length text.old }
 {
-    let mut path = io::buffer();
+    let mut path = [0; 4096];
     let m = append(&mut path, 0, name);
     let n = append(&mut path, m, ending);
-    read_full(&mut open(rt, &path[..n])?, text)
+    files::read(rt, &path[..n], text)
 }
 
 fn one(rt: &HostRuntime, name: &[u8], parts: bool) -> Result<()> {
-    let mut formula = io::buffer();
+    let mut formula = [0; 4096];
     let f = read_file(rt, name, b".cnf", &mut formula)?;
-    let mut proof = io::buffer();
+    let mut proof = [0; 4096];
     let p = read_file(rt, name, b".lrat", &mut proof)?;
-    let mut expected = io::buffer();
+    let mut expected = [0; 4096];
     let e = read_file(rt, name, b".answer", &mut expected)?;
+    let case = Case {
+        formula: &formula[..f],
+        proof: &proof[..p],
+        expected: &expected[..e],
+    };
     if parts {
-        return with_parts(rt, &formula[..f], &proof[..p], &expected[..e]);
+        return with_parts(rt, case);
     }
-    say(rt, name)?;
-    with_room(rt, &formula[..f], &proof[..p], &expected[..e])?;
-    with_little(rt, &formula[..f], &proof[..p], &expected[..e])
+    writer(rt).write_all(name)?;
+    with_room(rt, case)?;
+    with_little(rt, case)
 }
 
 // Whether there is such an argument; if so, its pair is shown.
 fn named(rt: &HostRuntime, i: usize, parts: bool) -> Result<bool> {
-    let mut name = io::buffer();
-    match argument(rt, i, &mut name) {
-        Some(m) => one(rt, &name[..m], parts)?,
-        None => return Ok(false),
-    }
+    let mut name = [0; 4096];
+    let Some(m) = files::argument(rt, i, &mut name) else {
+        return Ok(false);
+    };
+    one(rt, &name[..m], parts)?;
     Ok(true)
 }
 
