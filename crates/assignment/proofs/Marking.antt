@@ -177,15 +177,6 @@ pub record Undoing (marks tape : List ℕ) (from to : ℕ) (marks' : List ℕ) (
   pub long : length marks' ≡ length marks
   pub later : from ≤ i
 
--- Where there are no more than `from` numbers, none is taken back.
-differ_kept : (before marks tape : List ℕ) (from to kept : ℕ) → kept ≡ min from to → Differ before marks tape from to → Differ before marks tape kept to
-differ_kept before marks tape from to kept e d = record {
-  long = d.long;
-  inside = λ i g l. d.inside i (omega (arith, clamps)) l;
-  clear = λ i g l. d.clear i (omega (arith, clamps)) l;
-  others = λ x n. d.others x (λ i g l. n i (omega (arith, clamps)) l);
-}
-
 module _ (marks tape : List ℕ) (from to : ℕ) (marks' : List ℕ) (i : ℕ) (u : Undoing marks tape from to marks' i) where
   module _ (x : ℕ) (e : x ≡ get_or tape i 0) (h : i < to) where
     differ_less : (before : List ℕ) → Differ before marks' tape i to → Differ before (set marks' x 0) tape (i + 1) to
@@ -217,6 +208,3 @@ module _ (marks tape : List ℕ) (from to : ℕ) (marks' : List ℕ) (i : ℕ) (
         let left = u.left before d in
         ext_get_or 0 marks' before left.long (λ x l. left.others x (λ j g k q. omega arith));
   }
-
-pub undone_kept : (marks tape : List ℕ) (from to kept : ℕ) (marks' : List ℕ) → kept ≡ min from to → Undone marks tape kept to marks' → Undone marks tape from to marks'
-undone_kept marks tape from to kept marks' e u = record { long = u.long; back = λ before d. u.back before (differ_kept before marks tape from to kept e d) }

@@ -24,11 +24,14 @@ pub enum Look {
 }
 
 impl Assignment<'_> {
+    ghost use Rattle.assignment.specs.Lent.{Same};
+
     // The literal `x` is false from now on; its number goes to the tape, unless it was false already.
     pub fn falsify(&mut self, x: u32)
         requires x_in_bounds { x < length self.old.marks.now }
         requires t_in_bounds { self.old.t < length self.old.tape.now }
-        ensures { Falsifies self.old.marks.now self.old.tape.now self.old.t x self.new.marks.now self.new.tape.now self.new.t }
+        ensures falls { Falsifies self.old.marks.now self.old.tape.now self.old.t x self.new.marks.now self.new.tape.now self.new.t }
+        ensures same { Same self.old self.new }
     {
         if self.marks[x as usize] != 0 {
             return;
@@ -39,22 +42,31 @@ impl Assignment<'_> {
     }
 
     // The marks of the numbers on the tape from `from` on are taken away, and the numbers too; none is, if there are no more than
-    // `from`. Returns the turns. (Tried: a `for` over that part of the tape. Behind the loan the proof no longer knows the tape.)
+    // `from`. Returns the turns.
     pub fn undo(&mut self, from: usize) -> u64
         requires { Undoable self.old.marks.now self.old.tape.now from self.old.t }
         ensures back { Undone self.old.marks.now self.old.tape.now from self.old.t self.new.marks.now }
         ensures tape { self.new.tape.now ≡ self.old.tape.now }
         ensures t { self.new.t ≡ min from self.old.t }
         ensures turns { result ≡ self.old.t - from }
+        ensures same { Same self.old self.new }
     {
-        let end = self.t;
-        self.t = usize::min(from, end);
-        for i in self.t..end {
-            let x = self.tape[i];
-            self.marks[x as usize] = 0;
-        }
-        (end - self.t) as u64
+        let tape: &[u32] = &mut *self.tape;
+        let turns = undo(self.marks, tape, from, self.t);
+        self.t = usize::min(from, self.t);
+        turns
     }
+}
+
+// The marks of the numbers on the tape from `from` up to `to` are taken away. Returns the turns.
+pub fn undo(marks: &mut [u8], tape: &[u32], from: usize, to: usize) -> u64
+    requires { Undoable marks.old tape.now from to }
+    ensures { Undone marks.old tape.now from to marks.new × (result ≡ to - from) }
+{
+    for i in from..to {
+        marks[tape[i] as usize] = 0;
+    }
+    to.saturating_sub(from) as u64
 }
 
 // 1 if a literal with this mark is not false and is another one than the last that was not, else 0.
