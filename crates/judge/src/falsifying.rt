@@ -6,6 +6,7 @@
 ghost use Rattle.std.specs.Prelude.{◌≡◌, ◌<◌, ◌≤◌, map, length};
 ghost use Rattle.rules.specs.Judging.{without};
 ghost use Rattle.clauses.specs.Codes.{literal_of};
+ghost use Rattle.assignment.specs.Lent.{Same};
 ghost use Rattle.assignment.specs.Marks.{Paired, Marked};
 ghost use Rattle.judge.specs.Falsifying.{FalsifiesOne, others_of, FalsifiesOthers, FalsifiesClause};
 
@@ -24,7 +25,8 @@ pub enum Obstacle {
 fn falsify_one(a: &mut Assignment, x: u32, kept: Option<u32>) -> Result<(), Obstacle>
     requires paired { Paired a.old.marks.now }
     requires x_in_bounds { x < length a.old.marks.now }
-    ensures { FalsifiesOne a.old.marks.now a.old.tape.now a.old.t x kept a.new.marks.now a.new.tape.now result a.new.t }
+    ensures falls { FalsifiesOne a.old.marks.now a.old.tape.now a.old.t x kept a.new.marks.now a.new.tape.now result a.new.t }
+    ensures same { Same a.old a.new }
 {
     if kept == Some(x) {
         return Ok(());
@@ -43,7 +45,8 @@ fn falsify_one(a: &mut Assignment, x: u32, kept: Option<u32>) -> Result<(), Obst
 fn falsify_all(a: &mut Assignment, clause: &[u32], kept: Option<u32>) -> Timed<Result<(), Obstacle>>
     requires paired { Paired a.old.marks.now }
     requires marked { Marked clause.now a.old.marks.now }
-    ensures { FalsifiesOthers clause.now (others_of kept clause.now) a.old.marks.now a.old.tape.now a.old.t a.new.marks.now a.new.tape.now result.value a.new.t result.turns }
+    ensures falls { FalsifiesOthers clause.now (others_of kept clause.now) a.old.marks.now a.old.tape.now a.old.t a.new.marks.now a.new.tape.now result.value a.new.t result.turns }
+    ensures same { Same a.old a.new }
 {
     for (passed, x) in clause.iter().enumerate() {
         if let Err(obstacle) = falsify_one(a, *x, kept) {
@@ -63,7 +66,8 @@ fn falsify_all(a: &mut Assignment, clause: &[u32], kept: Option<u32>) -> Timed<R
 pub fn falsify_others(a: &mut Assignment, clause: &[u32], q: u32) -> Timed<Result<(), Obstacle>>
     requires paired { Paired a.old.marks.now }
     requires marked { Marked clause.now a.old.marks.now }
-    ensures { FalsifiesOthers clause.now (without (literal_of q) (map literal_of clause.now)) a.old.marks.now a.old.tape.now a.old.t a.new.marks.now a.new.tape.now result.value a.new.t result.turns }
+    ensures falls { FalsifiesOthers clause.now (without (literal_of q) (map literal_of clause.now)) a.old.marks.now a.old.tape.now a.old.t a.new.marks.now a.new.tape.now result.value a.new.t result.turns }
+    ensures same { Same a.old a.new }
 {
     falsify_all(a, clause, Some(q))
 }
@@ -72,7 +76,8 @@ pub fn falsify_others(a: &mut Assignment, clause: &[u32], q: u32) -> Timed<Resul
 pub fn falsify_clause(a: &mut Assignment, clause: &[u32]) -> Timed<Result<(), Obstacle>>
     requires paired { Paired a.old.marks.now }
     requires marked { Marked clause.now a.old.marks.now }
-    ensures { FalsifiesClause clause.now a.old.marks.now a.old.tape.now a.old.t a.new.marks.now a.new.tape.now result.value a.new.t result.turns }
+    ensures falls { FalsifiesClause clause.now a.old.marks.now a.old.tape.now a.old.t a.new.marks.now a.new.tape.now result.value a.new.t result.turns }
+    ensures same { Same a.old a.new }
 {
     falsify_all(a, clause, None)
 }

@@ -10,6 +10,7 @@ ghost use Rattle.std.specs.Prelude.{◌≡◌, ◌<◌, ◌^◌, map};
 ghost use Rattle.clauses.specs.Codes.{half};
 ghost use Rattle.clauses.specs.Store.{RoomFor, live_of};
 ghost use Rattle.clauses.specs.Finding.{Peeks};
+ghost use Rattle.assignment.specs.Lent.{Same};
 ghost use Rattle.judge.specs.Hints.{Ready, Hints, Forcible, ForcesOne, TakesOne, Ahead, Takes};
 
 use assignment::{Assignment, Look};
@@ -72,7 +73,8 @@ fn hint_under(view: View, peeked: Option<usize>, a: &Assignment, id: u64) -> Tim
 #[inline]
 fn force(a: &mut Assignment, x: u32) -> Result<Effect, Fault>
     requires { Forcible a.old.marks.now a.old.tape.now a.old.t x }
-    ensures { ForcesOne a.old.marks.now a.old.tape.now a.old.t x a.new.marks.now a.new.tape.now result a.new.t }
+    ensures forces { ForcesOne a.old.marks.now a.old.tape.now a.old.t x a.new.marks.now a.new.tape.now result a.new.t }
+    ensures same { Same a.old a.new }
 {
     if a.tape.len() <= a.t {
         return Err(Fault::TooShort);
@@ -93,7 +95,8 @@ fn take_one(
     requires ready { Ready view.heads.now view.lits.now view.n a.old.marks.now }
     requires id_bound { id < 2 ^ 60 }
     requires peeked { Peeks view.heads.now view.n id peeked }
-    ensures { TakesOne view.entry.heads.now view.entry.lits.now view.entry.n a.old.marks.now a.old.tape.now a.old.t id a.new.marks.now a.new.tape.now result.value a.new.t result.turns }
+    ensures takes { TakesOne view.entry.heads.now view.entry.lits.now view.entry.n a.old.marks.now a.old.tape.now a.old.t id a.new.marks.now a.new.tape.now result.value a.new.t result.turns }
+    ensures same { Same a.old a.new }
 {
     let seen = hint_under(view, peeked, a, id);
     let value = match seen.value {
@@ -128,7 +131,8 @@ fn peek_at(view: View, guessed: usize, hints: &[u32], i: usize) -> Option<usize>
 // Takes the hints, one by one.
 pub fn take_hints(view: View, a: &mut Assignment, hints: &[u32]) -> Timed<Result<Effect, Fault>>
     requires { Ready view.heads.now view.lits.now view.n a.old.marks.now }
-    ensures { Takes (live_of view.entry.heads.now view.entry.lits.now view.entry.n) view.entry.n (map half hints.now) a.old.marks.now a.old.tape.now a.old.t a.new.marks.now a.new.tape.now result.value a.new.t result.turns }
+    ensures takes { Takes (live_of view.entry.heads.now view.entry.lits.now view.entry.n) view.entry.n (map half hints.now) a.old.marks.now a.old.tape.now a.old.t a.new.marks.now a.new.tape.now result.value a.new.t result.turns }
+    ensures same { Same a.old a.new }
 {
     let mut turns: u64 = 0;
     let mut ahead = peek_at(view, guess_at(view, hints, 0), hints, 0);

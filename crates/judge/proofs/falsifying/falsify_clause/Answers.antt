@@ -2,5 +2,5 @@
 use Rattle.judge.proofs.Falling.{whole_clause}
 use Rattle.judge.proofs.falsifying.falsify_clause.Goals as goal
 
-pub returns : goal.returns
-returns c = whole_clause _ _ _ _ _ _ _ _ _ c.falsify_all.ensures
+pub returns-clause-falls : goal.returns-clause-falls
+returns-clause-falls c = whole_clause _ _ _ _ _ _ _ _ _ c.falsify_all.ensures.falls
