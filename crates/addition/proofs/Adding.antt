@@ -289,6 +289,7 @@ module _ {heads lits : List ℕ} {n : ℕ} {clause marks : List ℕ} (add : Adda
       clause_judged together = record {
         back = undone.back marks both_laid.differ;
         stays = omega (arith, both_laid.forward);
+        kept = both_laid.kept;
         long = both_laid.long;
         says = λ last id fresh. clause-says last id fresh f (fell.outcome add.shows) fell.so_many j.case;
         bounded = omega (arith, j.bounded, j.few, fell.few, clause_passed, together.at_most);
@@ -297,4 +298,4 @@ module _ {heads lits : List ℕ} {n : ℕ} {clause marks : List ℕ} (add : Adda
 -- The first half of rule 1.
 pub addition_stale : {live : Live} {n : ℕ} {lits clause hints : List ℕ} {last id : ℕ} {marks tape : List ℕ} {t : ℕ} → id ≤ last
     → Judges live n lits clause hints last id marks tape t marks tape (Err (Refused (IdNotFresh id))) t 0
-addition_stale h = record { back = refl; stays = refl; long = refl; says = record { case = addition_old _ _ _ _ _ h }; bounded = omega arith }
+addition_stale h = record { back = refl; stays = refl; kept = λ i l. refl; long = refl; says = record { case = addition_old _ _ _ _ _ h }; bounded = omega arith }

@@ -1,5 +1,5 @@
 -- What judging an addition comes to, from one group's hints up to all rules.
-use Rattle.std.specs.Prelude.{ℕ, ◌+◌, ◌*◌, ◌^◌, ◌<◌, ◌≤◌, ◌≡◌, List, [], ◌∷◌, map, length, Ok, Err}
+use Rattle.std.specs.Prelude.{ℕ, ◌+◌, ◌*◌, ◌^◌, ◌<◌, ◌≤◌, ◌≡◌, List, [], ◌∷◌, map, length, get_or, Ok, Err}
 use Rattle.std.proofs.Math.Seq.{slice}
 use Rattle.meaning.specs.Meaning.{Clause}
 use Rattle.rules.specs.Judging.{Live, opposite, Trail, take_hints, groups, group_end, groups_fault, after_hints, hints_fault, addition_fault}
@@ -131,6 +131,7 @@ all_turns n literals codes = n + 3 * literals + 2 * codes + 1 + costs literals c
 pub record JudgesClause (live : Live) (n : ℕ) (lits clause hints marks tape : List ℕ) (t : ℕ) (marks' tape' : List ℕ) (verdict : Verdict) (t' turns : ℕ) : Type 0 where
   pub back : marks' ≡ marks
   pub stays : t' ≡ t
+  pub kept : (i : ℕ) → i < t → get_or tape' i 0 ≡ get_or tape i 0
   pub long : length tape' ≡ length tape
   pub says : (last id : ℕ) → last < id → Says (addition_fault live last id (map literal_of clause) (map hint_of hints)) (length tape) (t + (length clause + length hints + length lits)) verdict
   pub bounded : turns ≤ most_turns n (length lits) (length clause) (length hints)
@@ -140,6 +141,7 @@ pub record JudgesClause (live : Live) (n : ℕ) (lits clause hints marks tape : 
 pub record Judges (live : Live) (n : ℕ) (lits clause hints : List ℕ) (last id : ℕ) (marks tape : List ℕ) (t : ℕ) (marks' tape' : List ℕ) (verdict : Verdict) (t' turns : ℕ) : Type 0 where
   pub back : marks' ≡ marks
   pub stays : t' ≡ t
+  pub kept : (i : ℕ) → i < t → get_or tape' i 0 ≡ get_or tape i 0
   pub long : length tape' ≡ length tape
   pub says : Says (addition_fault live last id (map literal_of clause) (map hint_of hints)) (length tape) (t + (length clause + length hints + length lits)) verdict
   pub bounded : turns ≤ most_turns n (length lits) (length clause) (length hints)

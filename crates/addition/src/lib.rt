@@ -6,6 +6,7 @@
 
 ghost use Rattle.std.specs.Prelude.{◌≡◌, ◌+◌, ◌/◌, ◌<◌, Ok, length, map, drop, slice_index};
 ghost use Rattle.clauses.specs.Codes.{literal_of};
+ghost use Rattle.assignment.specs.Lent.{Same};
 ghost use Rattle.assignment.specs.Marks.{Marked};
 ghost use Rattle.groups.specs.Matching.{GroupAt};
 ghost use Rattle.judge.specs.Hints.{Ready};
@@ -66,7 +67,8 @@ fn verdict_by(taken: Result<Effect, Fault>, d: u64) -> Result<(), Failure>
 // Takes the hints of clause `d`'s group.
 fn take_all(view: View, a: &mut Assignment, hints: &[u32], d: u64) -> Judged
     requires { Ready view.heads.now view.lits.now view.n a.old.marks.now }
-    ensures { TriesHints (live_in view.entry) view.entry.n d (ids_of hints.now) (Ok tt) a.old.marks.now a.old.tape.now a.old.t a.new.marks.now a.new.tape.now result.value a.new.t result.turns }
+    ensures judged { TriesHints (live_in view.entry) view.entry.n d (ids_of hints.now) (Ok tt) a.old.marks.now a.old.tape.now a.old.t a.new.marks.now a.new.tape.now result.value a.new.t result.turns }
+    ensures same { Same a.old a.new }
 {
     let taken = judge::hints::take_hints(view, a, hints);
     Timed {
@@ -84,7 +86,8 @@ fn try_hints(
     fell: Result<(), Obstacle>,
 ) -> Judged
     requires { Ready view.heads.now view.lits.now view.n a.old.marks.now }
-    ensures { TriesHints (live_in view.entry) view.entry.n d (ids_of hints.now) fell a.old.marks.now a.old.tape.now a.old.t a.new.marks.now a.new.tape.now result.value a.new.t result.turns }
+    ensures judged { TriesHints (live_in view.entry) view.entry.n d (ids_of hints.now) fell a.old.marks.now a.old.tape.now a.old.t a.new.marks.now a.new.tape.now result.value a.new.t result.turns }
+    ensures same { Same a.old a.new }
 {
     match fell {
         Ok(()) => take_all(view, a, hints, d),
@@ -113,7 +116,8 @@ fn judge_there(
     requires fit { Fit view.heads.now view.lits.now view.n a.old.marks.now }
     requires place_of { PlaceOf view.heads.now view.n d place }
     requires turns_bound { turns < 65 + length hints.now }
-    ensures { JudgesGroup (live_in view.entry) view.entry.lits.now a.old.marks.now a.old.tape.now a.old.t q d (ids_of hints.now) turns a.new.marks.now a.new.tape.now result.value a.new.t result.turns }
+    ensures judged { JudgesGroup (live_in view.entry) view.entry.lits.now a.old.marks.now a.old.tape.now a.old.t q d (ids_of hints.now) turns a.new.marks.now a.new.tape.now result.value a.new.t result.turns }
+    ensures same { Same a.old a.new }
 {
     let start = a.t;
     let fell = judge::falsifying::falsify_others(a, view.clause(place), q);
@@ -132,8 +136,9 @@ fn judge_there(
 fn judge_group(view: View, a: &mut Assignment, group: &[u32], q: u32) -> Judged
     requires fit { Fit view.heads.now view.lits.now view.n a.old.marks.now }
     requires begins { 0 < length group.now }
-    ensures { JudgesGroup (live_in view.entry) view.entry.lits.now a.old.marks.now a.old.tape.now a.old.t q (slice_index group.now 0 / 2) (ids_of (drop 1 group.now)) (length group.now)
+    ensures judged { JudgesGroup (live_in view.entry) view.entry.lits.now a.old.marks.now a.old.tape.now a.old.t q (slice_index group.now 0 / 2) (ids_of (drop 1 group.now)) (length group.now)
         a.new.marks.now a.new.tape.now result.value a.new.t result.turns }
+    ensures same { Same a.old a.new }
 {
     let d = clauses::half(group[0]);
     let found = view.lookup(d);
@@ -151,7 +156,8 @@ fn judge_group(view: View, a: &mut Assignment, group: &[u32], q: u32) -> Judged
 fn judge_groups(view: View, a: &mut Assignment, hints: &[u32], q: u32, before: u64) -> Judged
     requires fit { Fit view.heads.now view.lits.now view.n a.old.marks.now }
     requires group_at { GroupAt hints.now 0 }
-    ensures { JudgesGroups (live_in view.entry) view.entry.lits.now hints.now a.old.marks.now a.old.tape.now a.old.t q before a.new.marks.now a.new.tape.now result.value a.new.t result.turns }
+    ensures judged { JudgesGroups (live_in view.entry) view.entry.lits.now hints.now a.old.marks.now a.old.tape.now a.old.t q before a.new.marks.now a.new.tape.now result.value a.new.t result.turns }
+    ensures same { Same a.old a.new }
 {
     let mut turns = before;
     for group in hints.chunk_by(|_, code| *code % 2 == 0) {
@@ -176,7 +182,8 @@ fn after_hints(view: View, clause: &[u32], a: &mut Assignment, hints: &[u32], be
     requires fit { Fit view.heads.now view.lits.now view.n a.old.marks.now }
     requires known { Marked clause.now a.old.marks.now }
     requires group_at { GroupAt hints.now 0 }
-    ensures { JudgesRest (live_in view.entry) view.entry.n view.entry.lits.now hints.now (map literal_of clause.now) a.old.marks.now a.old.tape.now a.old.t before a.new.marks.now a.new.tape.now result.value a.new.t result.turns }
+    ensures judged { JudgesRest (live_in view.entry) view.entry.n view.entry.lits.now hints.now (map literal_of clause.now) a.old.marks.now a.old.tape.now a.old.t before a.new.marks.now a.new.tape.now result.value a.new.t result.turns }
+    ensures same { Same a.old a.new }
 {
     let Some(p) = clause.first() else {
         return Timed {
@@ -200,7 +207,8 @@ fn after_hints(view: View, clause: &[u32], a: &mut Assignment, hints: &[u32], be
 fn judge_hints(view: View, clause: &[u32], a: &mut Assignment, hints: &[u32], before: u64) -> Judged
     requires begun { Begun view.heads.now view.lits.now view.n a.old.marks.now (map literal_of clause.now) (Ok tt) }
     requires known { Marked clause.now a.old.marks.now }
-    ensures { JudgesHints (live_in view.entry) view.entry.n view.entry.lits.now hints.now (map literal_of clause.now) a.old.marks.now a.old.tape.now a.old.t before a.new.marks.now a.new.tape.now result.value a.new.t result.turns }
+    ensures judged { JudgesHints (live_in view.entry) view.entry.n view.entry.lits.now hints.now (map literal_of clause.now) a.old.marks.now a.old.tape.now a.old.t before a.new.marks.now a.new.tape.now result.value a.new.t result.turns }
+    ensures same { Same a.old a.new }
 {
     let (leading, behind) = hints.split_at(groups::next_group(hints, 0));
     let taken = judge::hints::take_hints(view, a, leading);
@@ -230,7 +238,8 @@ fn judge_behind(
 ) -> Judged
     requires begun { Begun view.heads.now view.lits.now view.n a.old.marks.now (map literal_of clause.now) fell }
     requires known { Marked clause.now a.old.marks.now }
-    ensures { JudgesBehind (live_in view.entry) view.entry.n view.entry.lits.now hints.now (map literal_of clause.now) fell a.old.marks.now a.old.tape.now a.old.t before a.new.marks.now a.new.tape.now result.value a.new.t result.turns }
+    ensures judged { JudgesBehind (live_in view.entry) view.entry.n view.entry.lits.now hints.now (map literal_of clause.now) fell a.old.marks.now a.old.tape.now a.old.t before a.new.marks.now a.new.tape.now result.value a.new.t result.turns }
+    ensures same { Same a.old a.new }
 {
     match fell {
         Ok(()) => judge_hints(view, clause, a, hints, before),
@@ -248,7 +257,8 @@ fn judge_behind(
 // All rules but the first half of rule 1, from marks that show nothing; what is marked on the way is taken back.
 fn judge_clause(view: View, clause: &[u32], a: &mut Assignment, hints: &[u32]) -> Judged
     requires { Addable view.heads.now view.lits.now view.n clause.now a.old.marks.now }
-    ensures { JudgesClause (live_in view.entry) view.entry.n view.entry.lits.now clause.now hints.now a.old.marks.now a.old.tape.now a.old.t a.new.marks.now a.new.tape.now result.value a.new.t result.turns }
+    ensures judged { JudgesClause (live_in view.entry) view.entry.n view.entry.lits.now clause.now hints.now a.old.marks.now a.old.tape.now a.old.t a.new.marks.now a.new.tape.now result.value a.new.t result.turns }
+    ensures same { Same a.old a.new }
 {
     let start = a.t;
     let fell = judge::falsifying::falsify_clause(a, clause);
@@ -271,7 +281,8 @@ pub fn judge_addition(
     id: u64,
 ) -> Judged
     requires { Addable view.heads.now view.lits.now view.n clause.now a.old.marks.now }
-    ensures { Judges (live_in view.entry) view.entry.n view.entry.lits.now clause.now hints.now last id a.old.marks.now a.old.tape.now a.old.t a.new.marks.now a.new.tape.now result.value a.new.t result.turns }
+    ensures judged { Judges (live_in view.entry) view.entry.n view.entry.lits.now clause.now hints.now last id a.old.marks.now a.old.tape.now a.old.t a.new.marks.now a.new.tape.now result.value a.new.t result.turns }
+    ensures same { Same a.old a.new }
 {
     if id <= last {
         return Timed {

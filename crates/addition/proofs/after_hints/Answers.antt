@@ -7,15 +7,15 @@ use Rattle.addition.proofs.after_hints.Goals as goal
 pub match_groups-matched-requires : goal.match_groups-matched-requires
 match_groups-matched-requires c = record { stored = fit_stored c.requires.fit; next_group = group_next _ c.requires.group_at }
 
-pub returns-in_default : goal.returns-in_default
-returns-in_default c = rest_empty _ _ _ c.requires.fit c.args.a.now.within (first-none _ (sym c.in_default.ensures.value))
+pub returns-in_default-clause-judged : goal.returns-in_default-clause-judged
+returns-in_default-clause-judged c = rest_empty _ _ _ c.requires.fit c.args.a.now.within (first-none _ (sym c.in_default.ensures.value))
 
-pub returns-in-Ok : goal.returns-in-Ok
-returns-in-Ok c =
+pub returns-in-Ok-clause-judged : goal.returns-in-Ok-clause-judged
+returns-in-Ok-clause-judged c =
     rest_all _ _ _ c.requires.fit (first_some _ _ (sym c.in-Some.ensures.value)) c.opposite-q.ensures c.match_groups-matched.ensures c.in-Ok.is c.plus-turns.ensures
-    c.judge_groups.ensures
+    c.judge_groups.ensures.judged
 
-pub returns-in-Err : goal.returns-in-Err
-returns-in-Err c =
+pub returns-in-Err-clause-judged : goal.returns-in-Err-clause-judged
+returns-in-Err-clause-judged c =
     rest_differ _ _ _ c.requires.fit (first_some _ _ (sym c.in-Some.ensures.value)) c.opposite-q.ensures c.match_groups-matched.ensures c.in-Err.is c.plus-turns.ensures
     c.args.a.now.within

@@ -3,5 +3,5 @@ use Rattle.std.proofs.Common.{arith}
 use Rattle.addition.proofs.Adding.{addition_stale}
 use Rattle.addition.proofs.judge_addition.Goals as goal
 
-pub returns-then-id-last : goal.returns-then-id-last
-returns-then-id-last c = addition_stale (omega arith)
+pub returns-then-id-last-clause-judged : goal.returns-then-id-last-clause-judged
+returns-then-id-last-clause-judged c = addition_stale (omega arith)

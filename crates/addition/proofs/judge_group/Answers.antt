@@ -13,10 +13,10 @@ pub judge_there-requires-clause-turns_bound : goal.judge_there-requires-clause-t
 judge_there-requires-clause-turns_bound c =
     one_bound _ _ _ c.requires.fit c.lookup-found.ensures.place c.lookup-found.ensures.turns (omega arith)
 
-pub returns-in-Some : goal.returns-in-Some
-returns-in-Some c =
-    one_judged _ _ _ c.requires.fit c.lookup-found.ensures.place c.lookup-found.ensures.turns (omega arith) c.half-d.ensures.0 c.judge_there.ensures
+pub returns-in-Some-clause-judged : goal.returns-in-Some-clause-judged
+returns-in-Some-clause-judged c =
+    one_judged _ _ _ c.requires.fit c.lookup-found.ensures.place c.lookup-found.ensures.turns (omega arith) c.half-d.ensures.0 c.judge_there.ensures.judged
 
-pub returns-in-None : goal.returns-in-None
-returns-in-None c =
+pub returns-in-None-clause-judged : goal.returns-in-None-clause-judged
+returns-in-None-clause-judged c =
     one_lacks _ _ _ c.requires.fit c.lookup-found.ensures.place c.lookup-found.ensures.turns (omega arith) c.half-d.ensures.0 c.args.a.now.within c.in-None.is

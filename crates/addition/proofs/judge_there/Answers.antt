@@ -13,10 +13,10 @@ falsify_others-fell-requires-clause-marked c =
 
 pub undo-back-requires : goal.undo-back-requires
 undo-back-requires c =
-    place_undoable _ _ c.requires.fit c.requires.place_of c.clause.ensures c.falsify_others-fell.ensures c.try_hints-tried.ensures
+    place_undoable _ _ c.requires.fit c.requires.place_of c.clause.ensures c.falsify_others-fell.ensures.falls c.try_hints-tried.ensures.judged
 
-pub returns : goal.returns
-returns c =
+pub returns-clause-judged : goal.returns-clause-judged
+returns-clause-judged c =
     rw c.undo-back.ensures.tape
-    (place_judged _ _ c.requires.fit c.requires.place_of c.clause.ensures c.falsify_others-fell.ensures c.try_hints-tried.ensures c.args.a.now.within c.requires.turns_bound
+    (place_judged _ _ c.requires.fit c.requires.place_of c.clause.ensures c.falsify_others-fell.ensures.falls c.try_hints-tried.ensures.judged c.args.a.now.within c.requires.turns_bound
     c.undo-back.ensures.back c.undo-back.ensures.t c.undo-back.ensures.turns (omega arith) c.plus.ensures)
