@@ -10,6 +10,7 @@ use Rattle.clauses.specs.Store.{live_of}
 use Rattle.deletion.specs.Deleting.{weight}
 use Rattle.deletion.proofs.Waste.{weight_dead}
 use Rattle.steps.specs.Reading.{LargeIn}
+use Rattle.assignment.proofs.Lending.{same_on}
 use Rattle.stepping.specs.Stepping.{Outcome, Lent, refusal_of, state_at, Keeps, rate, Lacks, LastTurns, TakesStep}
 use Rattle.stepping.specs.declared.Bench.{Bench}
 use Rattle.stepping.specs.declared.Between.{Between}
@@ -46,10 +47,22 @@ running_start proof b w k = record {
   steps = omega arith;
   counted = omega arith;
   bounded = omega arith;
-  lent = record { heads = refl; lits = refl; hints = refl; guess = refl; marks = refl; tape = refl };
+  lent = record {
+    heads = refl;
+    lits = refl;
+    hints = refl;
+    guess = refl;
+    marks = refl;
+    tape = refl;
+    same_heads = refl;
+    same_lits = refl;
+    same_hints = refl;
+    same_guess = refl;
+    same_assignment = record { marks = refl; tape = refl };
+  };
 }
 
--- What was lent twice is as long as it was at first.
+-- What was lent twice is what it was at first.
 pub lent_on : (w₀ w w' : Bench) → Lent w₀ w → Lent w w' → Lent w₀ w'
 lent_on w₀ w w' a b = record {
   heads = b.heads ∙ a.heads;
@@ -58,6 +71,11 @@ lent_on w₀ w w' a b = record {
   guess = b.guess ∙ a.guess;
   marks = b.marks ∙ a.marks;
   tape = b.tape ∙ a.tape;
+  same_heads = b.same_heads ∙ a.same_heads;
+  same_lits = b.same_lits ∙ a.same_lits;
+  same_hints = b.same_hints ∙ a.same_hints;
+  same_guess = b.same_guess ∙ a.same_guess;
+  same_assignment = same_on a.same_assignment b.same_assignment;
 }
 
 -- Only the lengths of the parts matter, and whether a literal has a mark.

@@ -8,6 +8,7 @@ use Rattle.rules.specs.Judging.{Ground, deletion_not_live, State, refused, adds_
 use Rattle.clauses.specs.Codes.{hint_of, half}
 use Rattle.clauses.specs.Counting.{Reaches}
 use Rattle.clauses.specs.Store.{RoomFor, written, live_of, Store}
+use Rattle.assignment.specs.Lent.{Same}
 use Rattle.assignment.specs.Marks.{Shows, Paired}
 use Rattle.deletion.specs.Deleting.{dead_of, state_of}
 use Rattle.steps.specs.Reading.{BeginsStep, LargeIn}
@@ -30,7 +31,7 @@ use Rattle.stepping.specs.declared.Bench.{Bench}
 abbrev pub Outcome : Type 0
 Outcome = Result Progress Failure
 
--- What was lent is as long as it was.
+-- The parts are still the slices that were lent, each as long as it was.
 pub record Lent (w w' : Bench) : Type 0 where
   pub heads : length w'.heads.now ≡ length w.heads.now
   pub lits : length w'.lits.now ≡ length w.lits.now
@@ -38,6 +39,11 @@ pub record Lent (w w' : Bench) : Type 0 where
   pub guess : length w'.guess.now ≡ length w.guess.now
   pub marks : length w'.assignment.marks.now ≡ length w.assignment.marks.now
   pub tape : length w'.assignment.tape.now ≡ length w.assignment.tape.now
+  pub same_heads : w'.heads.ghost_name ≡ w.heads.ghost_name
+  pub same_lits : w'.lits.ghost_name ≡ w.lits.ghost_name
+  pub same_hints : w'.hints.ghost_name ≡ w.hints.ghost_name
+  pub same_guess : w'.guess.ghost_name ≡ w.guess.ghost_name
+  pub same_assignment : Same w.assignment w'.assignment
 
 -- The ground of a refusal, in the document's terms.
 abbrev pub refusal_of : Refusal → Ground

@@ -7,8 +7,8 @@ judge_addition-judged-requires c = addable_front _ _ _ _ _ _ _ _ c.requires
 
 pub returns-clause-judged : goal.returns-clause-judged
 returns-clause-judged c =
-    (addition_adds _ _ _ _ _ _ _ _ c.requires _ _ _ _ _ _ c.judge_addition-judged.ensures _ _ c.accept.ensures).0
+    (addition_adds _ _ _ _ _ _ _ _ c.requires _ _ _ _ _ _ c.judge_addition-judged.ensures.judged _ _ c.accept.ensures).0
 
 pub returns-clause-turns : goal.returns-clause-turns
 returns-clause-turns c =
-    (addition_adds _ _ _ _ _ _ _ _ c.requires _ _ _ _ _ _ c.judge_addition-judged.ensures _ _ c.accept.ensures).1
+    (addition_adds _ _ _ _ _ _ _ _ c.requires _ _ _ _ _ _ c.judge_addition-judged.ensures.judged _ _ c.accept.ensures).1
