@@ -10,9 +10,8 @@ use Rattle.clauses.specs.Store.{live_of}
 use Rattle.deletion.specs.Deleting.{weight}
 use Rattle.deletion.proofs.Waste.{weight_dead}
 use Rattle.steps.specs.Reading.{LargeIn}
-use Rattle.assignment.proofs.Lending.{same_on}
 use Rattle.stepping.specs.Stepping.{Outcome, Lent, refusal_of, state_at, Keeps, rate, Lacks, LastTurns, TakesStep}
-use Rattle.stepping.specs.declared.Bench.{Bench}
+use Rattle.stepping.specs.declared.Work.{Work}
 use Rattle.stepping.specs.declared.Between.{Between}
 use Rattle.stepping.specs.declared.Progress.{Progress}
 use Rattle.stepping.specs.declared.Progress.TheVariants.{On, Verified, Nothing}
@@ -26,8 +25,8 @@ use Rattle.checker.specs.declared.running.Stop.{Stop}
 
 -- What is known where so many steps are done: what is left comes to what the whole comes to; the store has no more than the
 -- tokens up to there; and the turns so far leave enough for the tokens that are left.
-pub record Running (proof : List ℕ) (b₀ : Between) (w₀ w : Bench) (at done turns : ℕ) (b : Between) : Type 0 where
-  pub keeps : Keeps w.heads.now w.lits.now w.assignment.marks.now b
+pub record Running (proof : List ℕ) (b₀ : Between) (w₀ w : Work) (at done turns : ℕ) (b : Between) : Type 0 where
+  pub keeps : Keeps w.heads.now w.lits.now w.marks.now b
   pub within : at ≤ length proof
   pub leads : Leads (state_at w₀.heads.now w₀.lits.now b₀) (tokens proof) (state_at w.heads.now w.lits.now b) (tokens (drop at proof))
   pub same : run_from 0 (state_at w₀.heads.now w₀.lits.now b₀) (tokens proof) ≡ run_from done (state_at w.heads.now w.lits.now b) (tokens (drop at proof))
@@ -37,7 +36,7 @@ pub record Running (proof : List ℕ) (b₀ : Between) (w₀ w : Bench) (at done
   pub bounded : turns + 2 * (length proof - at) + length (tokens (drop at proof)) * rate (all_of proof b₀) ≤ 2 * length proof + length (tokens proof) * rate (all_of proof b₀)
   pub lent : Lent w₀ w
 
-pub running_start : (proof : List ℕ) (b : Between) (w : Bench) → Keeps w.heads.now w.lits.now w.assignment.marks.now b → Running proof b w w 0 0 0 b
+pub running_start : (proof : List ℕ) (b : Between) (w : Work) → Keeps w.heads.now w.lits.now w.marks.now b → Running proof b w w 0 0 0 b
 running_start proof b w k = record {
   keeps = k;
   within = omega arith;
@@ -58,12 +57,13 @@ running_start proof b w k = record {
     same_lits = refl;
     same_hints = refl;
     same_guess = refl;
-    same_assignment = record { marks = refl; tape = refl };
+    same_marks = refl;
+    same_tape = refl;
   };
 }
 
 -- What was lent twice is what it was at first.
-pub lent_on : (w₀ w w' : Bench) → Lent w₀ w → Lent w w' → Lent w₀ w'
+pub lent_on : (w₀ w w' : Work) → Lent w₀ w → Lent w w' → Lent w₀ w'
 lent_on w₀ w w' a b = record {
   heads = b.heads ∙ a.heads;
   lits = b.lits ∙ a.lits;
@@ -75,7 +75,8 @@ lent_on w₀ w w' a b = record {
   same_lits = b.same_lits ∙ a.same_lits;
   same_hints = b.same_hints ∙ a.same_hints;
   same_guess = b.same_guess ∙ a.same_guess;
-  same_assignment = same_on a.same_assignment b.same_assignment;
+  same_marks = b.same_marks ∙ a.same_marks;
+  same_tape = b.same_tape ∙ a.same_tape;
 }
 
 -- Only the lengths of the parts matter, and whether a literal has a mark.
@@ -101,7 +102,7 @@ live-half : (heads lits marks : List ℕ) (b : Between) → Keeps heads lits mar
 live-half heads lits marks b k =
     omega (arith, weight_dead heads lits b.n b.used b.last k.tight.held.store, k.tight.held.counted, k.tight.half)
 
-module _ (proof : List ℕ) (b₀ : Between) (w₀ w : Bench) (at done turns : ℕ) (b : Between) (r : Running proof b₀ w₀ w at done turns b) where
+module _ (proof : List ℕ) (b₀ : Between) (w₀ w : Work) (at done turns : ℕ) (b : Between) (r : Running proof b₀ w₀ w at done turns b) where
   abbrev before : State
   before = state_at w.heads.now w.lits.now b
 
@@ -111,14 +112,14 @@ module _ (proof : List ℕ) (b₀ : Between) (w₀ w : Bench) (at done turns : �
   pub running_small : length proof < 2 ^ 63 → done < 2 ^ 63
   running_small h = omega (arith, r.steps, tokens_few proof)
 
-  module _ (w' : Bench) (next more turns' : ℕ) (c : Counts turns more turns') where
+  module _ (w' : Work) (next more turns' : ℕ) (c : Counts turns more turns') where
     abbrev pub Takes : Outcome → Type 0
     Takes o =
-        TakesStep proof at b w.heads.now w.lits.now w.hints.now w.assignment.marks.now w.assignment.tape.now w'.heads.now w'.lits.now w'.assignment.marks.now o next more
+        TakesStep proof at b w.heads.now w.lits.now w.hints.now w.marks.now w.tape.now w'.heads.now w'.lits.now w'.marks.now o next more
 
     abbrev pub Ends : Result Finish Stop → Type 0
     Ends e =
-        RunsTo proof b₀ w₀.heads.now w₀.lits.now w₀.hints.now w₀.assignment.marks.now w₀.assignment.tape.now e × ((steps_of e ≤ turns') × (turns' ≤ run_turns proof b₀))
+        RunsTo proof b₀ w₀.heads.now w₀.lits.now w₀.hints.now w₀.marks.now w₀.tape.now e × ((steps_of e ≤ turns') × (turns' ≤ run_turns proof b₀))
 
     -- The count goes up with each step, unless it is full.
     done_more : (o : Outcome) → Takes o → length proof < 2 ^ 63 → done + 1 ≤ turns'
@@ -141,7 +142,7 @@ module _ (proof : List ℕ) (b₀ : Between) (w₀ w : Bench) (at done turns : �
         (record { case = r.same ∙ run_end done before left y.0 }, (omega (arith, done_more (Ok Nothing) t h), last_turns y.1))
 
     stopped : (why : Failure) → Takes (Err why)
-        → StopCase (state_at w₀.heads.now w₀.lits.now b₀) (tokens proof) w₀.heads.now w₀.lits.now w₀.hints.now w₀.assignment.tape.now (length w₀.assignment.marks.now) (all_of proof b₀) (done + 1) why
+        → StopCase (state_at w₀.heads.now w₀.lits.now b₀) (tokens proof) w₀.heads.now w₀.lits.now w₀.hints.now w₀.tape.now (length w₀.marks.now) (all_of proof b₀) (done + 1) why
     stopped (Refused g) t =
         let y = t.case in
         rw (add-one done) (r.same ∙ run_refused done before left (y.0.last.has.step, y.0.last.rest) (refusal_of g) y.0.last.has.is y.0.is)
@@ -151,11 +152,11 @@ module _ (proof : List ℕ) (b₀ : Between) (w₀ w : Bench) (at done turns : �
       leads = r.leads;
       n = b.n;
       used = b.used;
-      twice = live-half w.heads.now w.lits.now w.assignment.marks.now b r.keeps;
+      twice = live-half w.heads.now w.lits.now w.marks.now b r.keeps;
       few = r.few;
       lacks =
-          lacks_same w.heads.now w.lits.now w.hints.now w.assignment.tape.now w₀.heads.now w₀.lits.now w₀.hints.now w₀.assignment.tape.now
-          (length w.assignment.marks.now) (length w₀.assignment.marks.now) b.n b.used left r.lent.heads r.lent.lits r.lent.hints r.lent.tape
+          lacks_same w.heads.now w.lits.now w.hints.now w.tape.now w₀.heads.now w₀.lits.now w₀.hints.now w₀.tape.now
+          (length w.marks.now) (length w₀.marks.now) b.n b.used left r.lent.heads r.lent.lits r.lent.hints r.lent.tape
           (λ g. rw r.lent.marks at g)
           t.case.0;
     }

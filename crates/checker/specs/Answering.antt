@@ -16,7 +16,6 @@ use Rattle.checker.specs.declared.Answer.TheVariants.{Verified, UnreadableFormul
 use Rattle.checker.specs.declared.running.Finish.{Finish}
 use Rattle.checker.specs.declared.running.Finish.TheVariants.{Verified as EndsVerified, Unfinished as EndsUnfinished}
 use Rattle.checker.specs.declared.running.Stop.{Stop}
-use Rattle.checker.specs.declared.Work.{Work}
 use Rattle.stepping.specs.declared.Failure.{Failure}
 use Rattle.stepping.specs.declared.Failure.TheVariants.{Refused as IsRefused, TooShort as IsTooShort, Unreadable as IsUnreadable}
 
@@ -95,18 +94,3 @@ pub record ChecksMarked (f p heads lits hints marks tape : List ℕ) (a : Answer
   pub short : a ≡ TooShort → Short f p heads lits hints tape (length marks)
   pub least : step_of a ≤ turns
   pub most : turns ≤ time_bound (length f) (length p)
-
--- The parts of the work store are still the slices that were lent, each as long as it was.
-pub record Lent (w w' : Work) : Type 0 where
-  pub heads : length w'.heads.now ≡ length w.heads.now
-  pub lits : length w'.lits.now ≡ length w.lits.now
-  pub hints : length w'.hints.now ≡ length w.hints.now
-  pub guess : length w'.guess.now ≡ length w.guess.now
-  pub marks : length w'.marks.now ≡ length w.marks.now
-  pub tape : length w'.tape.now ≡ length w.tape.now
-  pub same_heads : w'.heads.ghost_name ≡ w.heads.ghost_name
-  pub same_lits : w'.lits.ghost_name ≡ w.lits.ghost_name
-  pub same_hints : w'.hints.ghost_name ≡ w.hints.ghost_name
-  pub same_guess : w'.guess.ghost_name ≡ w.guess.ghost_name
-  pub same_marks : w'.marks.ghost_name ≡ w.marks.ghost_name
-  pub same_tape : w'.tape.ghost_name ≡ w.tape.ghost_name

@@ -10,26 +10,15 @@
 pub mod running;
 
 ghost use Rattle.std.specs.Prelude.{◌≡◌, ◌+◌, ◌%◌, ◌≤◌, length};
-ghost use Rattle.stepping.specs.Stepping.{Lent as BenchLent};
+ghost use Rattle.stepping.specs.Stepping.{Lent};
 ghost use Rattle.checker.specs.Promises.{Exact, Means, Room, FollowsLive, time_bound, step_of};
 ghost use Rattle.checker.specs.Running.{proof_turns};
-ghost use Rattle.checker.specs.Answering.{answer_by, unread_by, Cells, Cleared, Charged, HasMarks, Begun, Answers, ChecksMarked, Lent};
+ghost use Rattle.checker.specs.Answering.{answer_by, unread_by, Cells, Cleared, Charged, HasMarks, Begun, Answers, ChecksMarked};
 
-use assignment::Assignment;
 use formula::{Fault, Stored};
 use running::{Finish, Stop};
-use stepping::{Bench, Between, Failure};
-
-// The parts of the work store.
-#[derive(Drop)]
-pub struct Work<'a> {
-    pub heads: &'a mut [u32],
-    pub lits: &'a mut [u32],
-    pub hints: &'a mut [u32],
-    pub guess: &'a mut [u32],
-    pub marks: &'a mut [u8],
-    pub tape: &'a mut [u32],
-}
+pub use stepping::Work;
+use stepping::{Between, Failure};
 
 // The answers of document 01, section 1.
 #[derive(Clone, Copy)]
@@ -127,27 +116,27 @@ fn has_marks(marks: usize, used: usize, top: u32) -> bool
 }
 
 // The formula lies in the store: its proof is checked, behind so many turns.
-fn check_stored(proof: &[u8], bench: &mut Bench, stored: Stored, before: u64) -> Checked
-    requires { Begun bench.old.heads.now bench.old.lits.now bench.old.assignment.marks.now stored.clauses stored.used stored.top }
-    ensures answer { Answers proof.now bench.old.heads.now bench.old.lits.now bench.old.hints.now bench.old.assignment.marks.now bench.old.assignment.tape.now stored.clauses stored.used result.answer }
+fn check_stored(proof: &[u8], work: &mut Work, stored: Stored, before: u64) -> Checked
+    requires { Begun work.old.heads.now work.old.lits.now work.old.marks.now stored.clauses stored.used stored.top }
+    ensures answer { Answers proof.now work.old.heads.now work.old.lits.now work.old.hints.now work.old.marks.now work.old.tape.now stored.clauses stored.used result.answer }
     ensures least { step_of result.answer ≤ result.turns }
     ensures most { result.turns ≤ before + stored.clauses + proof_turns proof.now (stored.clauses + stored.used) }
-    ensures lent { BenchLent bench.old bench.new }
+    ensures lent { Lent work.old work.new }
 {
-    if !has_marks(bench.assignment.marks.len(), stored.used, stored.top) {
+    if !has_marks(work.marks.len(), stored.used, stored.top) {
         return Checked {
             answer: Answer::TooShort,
             turns: before,
         };
     }
-    let noted = clauses::note_all(&mut *bench.heads, stored.clauses, bench.guess);
+    let noted = clauses::note_all(&mut *work.heads, stored.clauses, work.guess);
     let first = Between {
         n: stored.clauses,
         used: stored.used,
         last: stored.clauses as u64,
         dead: 0,
     };
-    let ran = running::run(proof, first, bench);
+    let ran = running::run(proof, first, work);
     Checked {
         answer: Answer::from(ran.value),
         turns: clauses::plus(clauses::plus(before, noted), ran.turns),
@@ -156,15 +145,15 @@ fn check_stored(proof: &[u8], bench: &mut Bench, stored: Stored, before: u64) ->
 
 // As `check`, where there is an even number of marks, and no more than there are literals. It takes the parts one by one: tried, a `Work`
 // whose marks are a part of another's, and the borrow checker does not cover it.
-fn check_marked<'a>(
+fn check_marked(
     formula: &[u8],
     proof: &[u8],
-    heads: &'a mut [u32],
-    lits: &'a mut [u32],
-    hints: &'a mut [u32],
-    guess: &'a mut [u32],
-    marks: &'a mut [u8],
-    tape: &'a mut [u32],
+    heads: &mut [u32],
+    lits: &mut [u32],
+    hints: &mut [u32],
+    guess: &mut [u32],
+    marks: &mut [u8],
+    tape: &mut [u32],
 ) -> Checked
     requires { (length marks.old % 2 ≡ 0) × (length marks.old ≤ 33554432) }
     ensures { ChecksMarked formula.now proof.now heads.old lits.old hints.old marks.old tape.old result.answer result.turns }
@@ -174,15 +163,15 @@ fn check_marked<'a>(
     match formula::read(formula, heads, lits) {
         Ok(stored) => {
             let turns = clauses::plus(cleared, reading(bytes, stored.used, stored.clauses));
-            let assignment = Assignment { marks, tape, t: 0 };
-            let mut bench = Bench {
+            let mut work = Work {
                 heads,
                 lits,
                 hints,
                 guess,
-                assignment,
+                marks,
+                tape,
             };
-            check_stored(proof, &mut bench, stored, turns)
+            check_stored(proof, &mut work, stored, turns)
         }
         Err(stopped) => Checked {
             answer: Answer::from(stopped.fault),

@@ -4,7 +4,7 @@ ghost use Rattle.stepping.specs.Stepping.{Keeps, Lent};
 ghost use Rattle.checker.specs.Running.{RunsTo, run_turns, steps_of};
 
 use clauses::Timed;
-use stepping::{Bench, Between, Failure, Progress};
+use stepping::{Between, Failure, Progress, Work};
 
 // How a run ends of which each step was taken: the empty clause was added at this step; or no step is left behind so many.
 #[derive(Clone, Copy)]
@@ -21,19 +21,19 @@ pub struct Stop {
 }
 
 // Takes the steps of the proof, where `first` is known at the start.
-pub fn run(proof: &[u8], first: Between, bench: &mut Bench) -> Timed<Result<Finish, Stop>>
-    requires { Keeps bench.old.heads.now bench.old.lits.now bench.old.assignment.marks.now first }
-    ensures ended { RunsTo proof.now first bench.old.heads.now bench.old.lits.now bench.old.hints.now bench.old.assignment.marks.now bench.old.assignment.tape.now result.value }
+pub fn run(proof: &[u8], first: Between, work: &mut Work) -> Timed<Result<Finish, Stop>>
+    requires { Keeps work.old.heads.now work.old.lits.now work.old.marks.now first }
+    ensures ended { RunsTo proof.now first work.old.heads.now work.old.lits.now work.old.hints.now work.old.marks.now work.old.tape.now result.value }
     ensures least { steps_of result.value ≤ result.turns }
     ensures most { result.turns ≤ run_turns proof.now first }
-    ensures lent { Lent bench.old bench.new }
+    ensures lent { Lent work.old work.new }
 {
     let mut at = 0;
     let mut done: u64 = 0;
     let mut turns: u64 = 0;
     let mut known = first;
     loop {
-        let taken = stepping::take_step(proof, at, known, bench);
+        let taken = stepping::take_step(proof, at, known, work);
         turns = clauses::plus(turns, taken.turns);
         match taken.outcome {
             Ok(Progress::On(after)) => {

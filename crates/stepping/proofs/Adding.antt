@@ -149,5 +149,8 @@ module _ (heads lits hints marks : List ℕ) (b : Between) (id end many : ℕ) (
     by_verdict (Err (IsRefused g)) f x = rw x (judge_fault (state_at heads lits b) id (clause_in lits b.used end) (map hint_of (take many hints)) (ground_of g) f)
     by_verdict (Err IsTooShort) f x = rw x (inr f)
 
-    pub addition_adds : Adds heads lits hints marks tape b id end many heads' marks' o × (turns ≤ all_turns b.n end many)
-    addition_adds = (record { case = by_verdict v says y.case }, omega (arith, rw (own-is, front_long, own_long, hints-long) at j.bounded, a.forward))
+    pub addition_adds : (after : List ℕ) → after ≡ marks' → Adds heads lits hints marks tape b id end many heads' after o
+    addition_adds after e = rw e (record { case = by_verdict v says y.case })
+
+    pub addition_turns : turns ≤ all_turns b.n end many
+    addition_turns = omega (arith, rw (own-is, front_long, own_long, hints-long) at j.bounded, a.forward)

@@ -8,7 +8,6 @@ use Rattle.rules.specs.Judging.{Ground, deletion_not_live, State, refused, adds_
 use Rattle.clauses.specs.Codes.{hint_of, half}
 use Rattle.clauses.specs.Counting.{Reaches}
 use Rattle.clauses.specs.Store.{RoomFor, written, live_of, Store}
-use Rattle.assignment.specs.Lent.{Same}
 use Rattle.assignment.specs.Marks.{Shows, Paired}
 use Rattle.deletion.specs.Deleting.{dead_of, state_of}
 use Rattle.steps.specs.Reading.{BeginsStep, LargeIn}
@@ -25,25 +24,26 @@ use Rattle.stepping.specs.declared.Progress.{Progress}
 use Rattle.stepping.specs.declared.Progress.TheVariants.{On, Verified, Nothing}
 use Rattle.stepping.specs.declared.Failure.{Failure}
 use Rattle.stepping.specs.declared.Failure.TheVariants.{Refused, TooShort, Unreadable}
-use Rattle.stepping.specs.declared.Bench.{Bench}
+use Rattle.stepping.specs.declared.Work.{Work}
 
 -- What a step comes to.
 abbrev pub Outcome : Type 0
 Outcome = Result Progress Failure
 
--- The parts are still the slices that were lent, each as long as it was.
-pub record Lent (w w' : Bench) : Type 0 where
+-- The parts of the work store are still the slices that were lent, each as long as it was.
+pub record Lent (w w' : Work) : Type 0 where
   pub heads : length w'.heads.now ≡ length w.heads.now
   pub lits : length w'.lits.now ≡ length w.lits.now
   pub hints : length w'.hints.now ≡ length w.hints.now
   pub guess : length w'.guess.now ≡ length w.guess.now
-  pub marks : length w'.assignment.marks.now ≡ length w.assignment.marks.now
-  pub tape : length w'.assignment.tape.now ≡ length w.assignment.tape.now
+  pub marks : length w'.marks.now ≡ length w.marks.now
+  pub tape : length w'.tape.now ≡ length w.tape.now
   pub same_heads : w'.heads.ghost_name ≡ w.heads.ghost_name
   pub same_lits : w'.lits.ghost_name ≡ w.lits.ghost_name
   pub same_hints : w'.hints.ghost_name ≡ w.hints.ghost_name
   pub same_guess : w'.guess.ghost_name ≡ w.guess.ghost_name
-  pub same_assignment : Same w.assignment w'.assignment
+  pub same_marks : w'.marks.ghost_name ≡ w.marks.ghost_name
+  pub same_tape : w'.tape.ghost_name ≡ w.tape.ghost_name
 
 -- The ground of a refusal, in the document's terms.
 abbrev pub refusal_of : Refusal → Ground

@@ -19,15 +19,17 @@ use clauses::{Timed, View};
 use formula::Fault;
 use steps::Step;
 
-// What a step works with: the clauses (`heads`, `lits`), the hints or ids of one step, the table of guesses, and the assignment.
-// A part that is only read is reborrowed as `&mut`, too, since a shared reborrow beside those of other fields has no rule yet.
+// The parts of the work store that a caller lends: `heads` and `lits` (the clauses), `hints` (the hints or ids of one step), `guess`
+// (where clauses probably are), `marks` and `tape` (the assignment). A part that is only read is reborrowed as `&mut`, too, since a
+// shared reborrow beside those of other fields has no rule yet.
 #[derive(Drop)]
-pub struct Bench<'a> {
+pub struct Work<'a> {
     pub heads: &'a mut [u32],
     pub lits: &'a mut [u32],
     pub hints: &'a mut [u32],
     pub guess: &'a mut [u32],
-    pub assignment: Assignment<'a>,
+    pub marks: &'a mut [u8],
+    pub tape: &'a mut [u32],
 }
 
 // What is known between two steps: how many clauses the store has, live or deleted; how many literals; the greatest of C and
@@ -156,7 +158,7 @@ fn give_back(heads: &mut [u32], lits: &mut [u32], guess: &mut [u32], b: Between)
     }
 }
 
-impl Bench<'_> {
+impl Work<'_> {
     // Judges the addition under `id` of the clause whose literals end at `end`, with the first `many` hints.
     fn add(
         &mut self,
@@ -165,13 +167,12 @@ impl Bench<'_> {
         end: usize,
         many: usize,
     ) -> Timed<Result<Progress, Failure>>
-        requires { Addable self.old.heads.now self.old.lits.now self.old.hints.now self.old.assignment.marks.now b id end many }
-        ensures judged { Adds self.old.heads.now self.old.lits.now self.old.hints.now self.old.assignment.marks.now self.old.assignment.tape.now b id end many self.new.heads.now self.new.assignment.marks.now result.value }
+        requires { Addable self.old.heads.now self.old.lits.now self.old.hints.now self.old.marks.now b id end many }
+        ensures judged { Adds self.old.heads.now self.old.lits.now self.old.hints.now self.old.marks.now self.old.tape.now b id end many self.new.heads.now self.new.marks.now result.value }
         ensures turns { result.turns ≤ all_turns b.n end many }
         ensures lits { self.new.lits.now ≡ self.old.lits.now }
         ensures lent { Lent self.old self.new }
     {
-        self.assignment.t = 0;
         let lits: &[u32] = &mut *self.lits;
         let hints: &[u32] = &mut *self.hints;
         let view = View {
@@ -180,10 +181,15 @@ impl Bench<'_> {
             guess: &mut *self.guess,
             n: b.n,
         };
+        let mut assignment = Assignment {
+            marks: &mut *self.marks,
+            tape: &mut *self.tape,
+            t: 0,
+        };
         let judged = addition::judge_addition(
             view,
             &lits[b.used..end],
-            &mut self.assignment,
+            &mut assignment,
             &hints[..many],
             b.last,
             id,
@@ -196,7 +202,7 @@ impl Bench<'_> {
 }
 
 // Judges the deletion of the clauses that these ids stand for, and gives room back. It takes the parts one by one: how long a slice
-// can be is known of a parameter, not of a field behind `&mut Bench`, and the sum of what is dead rests on that.
+// can be is known of a parameter, not of a field behind `&mut Work`, and the sum of what is dead rests on that.
 fn delete(
     heads: &mut [u32],
     lits: &mut [u32],
@@ -265,15 +271,15 @@ impl Taken {
 }
 
 // Takes the step at `at`: reads it, judges it, and brings the store up to date.
-pub fn take_step(proof: &[u8], at: usize, b: Between, bench: &mut Bench) -> Taken
-    requires keeps { Keeps bench.old.heads.now bench.old.lits.now bench.old.assignment.marks.now b }
+pub fn take_step(proof: &[u8], at: usize, b: Between, work: &mut Work) -> Taken
+    requires keeps { Keeps work.old.heads.now work.old.lits.now work.old.marks.now b }
     requires at_in_bounds { at ≤ length proof.now }
-    ensures step { TakesStep proof.now at b bench.old.heads.now bench.old.lits.now bench.old.hints.now bench.old.assignment.marks.now bench.old.assignment.tape.now bench.new.heads.now bench.new.lits.now bench.new.assignment.marks.now result.outcome result.next result.turns }
-    ensures lent { Lent bench.old bench.new }
+    ensures step { TakesStep proof.now at b work.old.heads.now work.old.lits.now work.old.hints.now work.old.marks.now work.old.tape.now work.new.heads.now work.new.lits.now work.new.marks.now result.outcome result.next result.turns }
+    ensures lent { Lent work.old work.new }
 {
     let bytes = proof.len() - at;
-    let cells = bench.assignment.marks.len();
-    match steps::read_step(proof, at, b.used, cells, bench.lits, bench.hints) {
+    let cells = work.marks.len();
+    match steps::read_step(proof, at, b.used, cells, work.lits, work.hints) {
         Ok(
             Step::Addition {
                 id,
@@ -283,11 +289,11 @@ pub fn take_step(proof: &[u8], at: usize, b: Between, bench: &mut Bench) -> Take
             },
         ) => {
             let codes = (end - b.used) + many;
-            Taken::read(bench.add(b, id, end, many), next, next - at, codes)
+            Taken::read(work.add(b, id, end, many), next, next - at, codes)
         }
         Ok(Step::Deletion { many, next }) => {
-            let hints: &[u32] = &mut *bench.hints;
-            let deleted = delete(bench.heads, bench.lits, &hints[..many], bench.guess, b);
+            let hints: &[u32] = &mut *work.hints;
+            let deleted = delete(work.heads, work.lits, &hints[..many], work.guess, b);
             Taken::read(deleted, next, next - at, many)
         }
         Ok(Step::Nothing { next }) => Taken::unread(Ok(Progress::Nothing), next, bytes, 0),

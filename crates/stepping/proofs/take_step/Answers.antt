@@ -7,29 +7,29 @@ use Rattle.stepping.proofs.take_step.Goals as goal
 
 pub overflow_sub-codes : goal.overflow_sub-codes
 overflow_sub-codes c =
-    (addition_addable _ _ _ _ _ _ _ c.args.bench.now.assignment.tape.now c.requires.keeps _ _ _ c.read_step.ensures _ c.in-Ok-Addition.is _ _ _ _ c.in-Ok-Addition.field-0-is).forward
+    (addition_addable _ _ _ _ _ _ _ c.args.work.now.tape.now c.requires.keeps _ _ _ c.read_step.ensures _ c.in-Ok-Addition.is _ _ _ _ c.in-Ok-Addition.field-0-is).forward
 
 pub overflow_add-codes : goal.overflow_add-codes
 overflow_add-codes c =
     record {
-      fits = addition_fits _ _ _ _ _ _ _ c.args.bench.now.assignment.tape.now c.requires.keeps _ _ _ c.read_step.ensures _ c.in-Ok-Addition.is _ _ _ _ c.in-Ok-Addition.field-0-is (omega (arith, c.well_formed.0.1));
+      fits = addition_fits _ _ _ _ _ _ _ c.args.work.now.tape.now c.requires.keeps _ _ _ c.read_step.ensures _ c.in-Ok-Addition.is _ _ _ _ c.in-Ok-Addition.field-0-is (omega (arith, c.well_formed.0.1));
     }
 
 pub overflow_sub-next : goal.overflow_sub-next
 overflow_sub-next c =
-    omega (arith, addition_later _ _ _ _ _ _ _ c.args.bench.now.assignment.tape.now c.requires.keeps _ _ _ c.read_step.ensures _ c.in-Ok-Addition.is _ _ _ _ c.in-Ok-Addition.field-0-is)
+    omega (arith, addition_later _ _ _ _ _ _ _ c.args.work.now.tape.now c.requires.keeps _ _ _ c.read_step.ensures _ c.in-Ok-Addition.is _ _ _ _ c.in-Ok-Addition.field-0-is)
 
 pub add-requires : goal.add-requires
 add-requires c =
-    addition_addable _ _ _ _ _ _ _ c.args.bench.now.assignment.tape.now c.requires.keeps _ _ _ c.read_step.ensures _ c.in-Ok-Addition.is _ _ _ _ c.in-Ok-Addition.field-0-is
+    addition_addable _ _ _ _ _ _ _ c.args.work.now.tape.now c.requires.keeps _ _ _ c.read_step.ensures _ c.in-Ok-Addition.is _ _ _ _ c.in-Ok-Addition.field-0-is
 
 pub overflow_sub-next-in-Ok-Deletion : goal.overflow_sub-next-in-Ok-Deletion
 overflow_sub-next-in-Ok-Deletion c =
-    omega (arith, deletion_later _ _ _ _ _ _ _ c.args.bench.now.assignment.tape.now c.requires.keeps _ _ _ c.read_step.ensures _ c.in-Ok-Deletion.is _ _ c.in-Ok-Deletion.field-0-is)
+    omega (arith, deletion_later _ _ _ _ _ _ _ c.args.work.now.tape.now c.requires.keeps _ _ _ c.read_step.ensures _ c.in-Ok-Deletion.is _ _ c.in-Ok-Deletion.field-0-is)
 
 pub delete-deleted-requires : goal.delete-deleted-requires
 delete-deleted-requires c =
-    deletion_tight _ _ _ _ _ _ _ c.args.bench.now.assignment.tape.now c.requires.keeps _ _ _ c.read_step.ensures _ c.in-Ok-Deletion.is _ _ c.in-Ok-Deletion.field-0-is
+    deletion_tight _ _ _ _ _ _ _ c.args.work.now.tape.now c.requires.keeps _ _ _ c.read_step.ensures _ c.in-Ok-Deletion.is _ _ c.in-Ok-Deletion.field-0-is
 
 pub returns-in-Ok-Addition-clause-step : goal.returns-in-Ok-Addition-clause-step
 returns-in-Ok-Addition-clause-step c =
@@ -50,12 +50,12 @@ returns-in-Ok-Nothing-clause-step c =
 
 pub overflow_sub-codes-in-Err : goal.overflow_sub-codes-in-Err
 overflow_sub-codes-in-Err c =
-    stopped_forward _ _ _ _ _ _ _ c.args.bench.now.assignment.tape.now c.requires.keeps _ _ _ c.read_step.ensures _ c.in-Err.is
+    stopped_forward _ _ _ _ _ _ _ c.args.work.now.tape.now c.requires.keeps _ _ _ c.read_step.ensures _ c.in-Err.is
 
 pub overflow_add-codes-in-Err : goal.overflow_add-codes-in-Err
 overflow_add-codes-in-Err c =
     record {
-      fits = stopped_fits _ _ _ _ _ _ _ c.args.bench.now.assignment.tape.now c.requires.keeps _ _ _ c.read_step.ensures _ c.in-Err.is (omega (arith, c.well_formed.0.1));
+      fits = stopped_fits _ _ _ _ _ _ _ c.args.work.now.tape.now c.requires.keeps _ _ _ c.read_step.ensures _ c.in-Err.is (omega (arith, c.well_formed.0.1));
     }
 
 pub returns-in-Err-clause-step : goal.returns-in-Err-clause-step

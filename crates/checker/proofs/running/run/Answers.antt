@@ -11,12 +11,12 @@ overflow_add-done c = record { fits = omega (arith, running_small _ _ _ _ _ _ _ 
 pub loop-after-smaller : goal.loop-after-smaller
 loop-after-smaller c =
     let taken = c.take_step-taken in
-    running_less _ _ _ _ _ _ _ _ c.loop-after.invariant taken.new.bench _ _ _ c.plus-turns.ensures _ _ _ c.in-Ok-On.is (rw c.in-Ok-On.is at c.in-Ok-On.field-0-is) taken.ensures.step
+    running_less _ _ _ _ _ _ _ _ c.loop-after.invariant taken.new.work _ _ _ c.plus-turns.ensures _ _ _ c.in-Ok-On.is (rw c.in-Ok-On.is at c.in-Ok-On.field-0-is) taken.ensures.step
 
 pub loop-after-preserved : goal.loop-after-preserved
 loop-after-preserved c =
     let taken = c.take_step-taken in
-    running_on _ _ _ _ _ _ _ _ c.loop-after.invariant taken.new.bench _ _ _ c.plus-turns.ensures _ _ _ c.in-Ok-On.is (rw c.in-Ok-On.is at c.in-Ok-On.field-0-is) taken.ensures.step
+    running_on _ _ _ _ _ _ _ _ c.loop-after.invariant taken.new.work _ _ _ c.plus-turns.ensures _ _ _ c.in-Ok-On.is (rw c.in-Ok-On.is at c.in-Ok-On.field-0-is) taken.ensures.step
     (omega (arith, c.well_formed.0.1)) taken.ensures.lent
 
 pub overflow_add-value : goal.overflow_add-value
@@ -26,7 +26,7 @@ pub returns-in-Ok-Verified : goal.returns-in-Ok-Verified
 returns-in-Ok-Verified c =
     let taken = c.take_step-taken in
     let all =
-    running_verified _ _ _ _ _ _ _ _ c.loop-after.invariant taken.new.bench _ _ _ c.plus-turns.ensures _ _ c.in-Ok-Verified.is (rw c.in-Ok-Verified.is at c.in-Ok-Verified.field-0-is)
+    running_verified _ _ _ _ _ _ _ _ c.loop-after.invariant taken.new.work _ _ _ c.plus-turns.ensures _ _ c.in-Ok-Verified.is (rw c.in-Ok-Verified.is at c.in-Ok-Verified.field-0-is)
     taken.ensures.step (omega (arith, c.well_formed.0.1)) in
     record { ended = all.0; least = all.1.0; most = all.1.1; lent = lent_on _ _ _ c.loop-after.invariant.lent taken.ensures.lent }
 
@@ -34,7 +34,7 @@ pub returns-in-Ok-Nothing : goal.returns-in-Ok-Nothing
 returns-in-Ok-Nothing c =
     let taken = c.take_step-taken in
     let all =
-    running_unfinished _ _ _ _ _ _ _ _ c.loop-after.invariant taken.new.bench _ _ _ c.plus-turns.ensures _ _ c.in-Ok-Nothing.is
+    running_unfinished _ _ _ _ _ _ _ _ c.loop-after.invariant taken.new.work _ _ _ c.plus-turns.ensures _ _ c.in-Ok-Nothing.is
     (rw c.in-Ok-Nothing.is at c.in-Ok-Nothing.field-0-is) taken.ensures.step (omega (arith, c.well_formed.0.1)) in
     record { ended = all.0; least = all.1.0; most = all.1.1; lent = lent_on _ _ _ c.loop-after.invariant.lent taken.ensures.lent }
 
@@ -45,6 +45,6 @@ pub returns-in-Err : goal.returns-in-Err
 returns-in-Err c =
     let taken = c.take_step-taken in
     let all =
-    running_stopped _ _ _ _ _ _ _ _ c.loop-after.invariant taken.new.bench _ _ _ c.plus-turns.ensures _ _ c.in-Err.is
+    running_stopped _ _ _ _ _ _ _ _ c.loop-after.invariant taken.new.work _ _ _ c.plus-turns.ensures _ _ c.in-Err.is
     taken.ensures.step (omega (arith, c.well_formed.0.1)) in
     record { ended = all.0; least = all.1.0; most = all.1.1; lent = lent_on _ _ _ c.loop-after.invariant.lent taken.ensures.lent }

@@ -6,7 +6,7 @@ use Rattle.checker.proofs.Runs.{Running}
 use Rattle.checker.proofs.running.run.Given as goal
 
 abbrev pub invariant-loop-after : goal.invariant-loop-after
-invariant-loop-after l = Running l.proof l.initial.known l.initial.bench l.bench l.at l.done l.turns l.known
+invariant-loop-after l = Running l.proof l.initial.known l.initial.work l.work l.at l.done l.turns l.known
 
 abbrev pub decreases-loop-after : goal.decreases-loop-after
 decreases-loop-after l = length (tokens (drop l.at l.proof))
