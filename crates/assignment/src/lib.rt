@@ -97,7 +97,8 @@ fn only_one(x: u32, marks: &[u8]) -> Look
     }
 }
 
-// The place behind `i`, or `i` again if that is the last one. (Tried: `min(i + 1, n - 1)`, which takes more instructions a turn.)
+// The place behind `i`, or `i` again if that is the last one. (Tried: `min(i + 1, n - 1)`. Taking hints, which no change may make
+// slower, then has 2.5 percent more instructions, over 30,000 additions with deletions.)
 fn behind(i: usize, n: usize) -> usize
     requires { i < n }
     ensures { Behind i n result }
@@ -110,7 +111,7 @@ fn behind(i: usize, n: usize) -> usize
 // often one was met that is another than the last before it: never, once however often that one is written, or more often. At first
 // the last is a number that no literal has. No branch is taken on a mark: which literals are false nobody can foretell. Nor is
 // one on whether there is a second literal in the last turn: the first is read twice there, which tells nothing new.
-// (Tried: a `for` over `clause.chunks(2)`, which takes more instructions a turn.)
+// (Tried: a `for` over `clause.chunks(2)`. Taking hints then has 3.3 percent more instructions, measured as above.)
 pub fn look_at(clause: &[u32], marks: &[u8]) -> Look
     requires paired { Paired marks.now }
     requires marked { Marked clause.now marks.now }

@@ -1,7 +1,7 @@
 // Rules 1, 2 and 4: the literals of a clause become false, one by one, and it is found out whether that can be: whether one of
 // them is true, or is the opposite of another.
 //
-// The loop's turns are told by the answer: one for each literal that was passed, and one more for the literal at which it
+// The turns of an answer are the literals that were passed. The loop made one for each, and one more for the literal at which it
 // stopped, if it did.
 ghost use Rattle.std.specs.Prelude.{◌≡◌, ◌<◌, ◌≤◌, map, length};
 ghost use Rattle.rules.specs.Judging.{without};
