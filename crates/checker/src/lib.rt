@@ -15,7 +15,7 @@ ghost use Rattle.checker.specs.Promises.{Exact, Means, Room, FollowsLive, time_b
 ghost use Rattle.checker.specs.Running.{proof_turns};
 ghost use Rattle.checker.specs.Answering.{answer_by, unread_by, Cells, Cleared, Charged, HasMarks, Begun, Answers, ChecksMarked};
 
-use formula::{Fault, Stored};
+use formula::{Fault, MAX_VARIABLE, Stored};
 use running::{Finish, Stop};
 pub use stepping::Work;
 use stepping::{Between, Failure};
@@ -86,7 +86,7 @@ impl From<Fault> for Answer {
 fn cells(marks: usize) -> usize
     ensures { Cells marks result }
 {
-    2 * (usize::min(marks, 33554432) / 2)
+    2 * (usize::min(marks, 2 * (MAX_VARIABLE as usize) + 2) / 2)
 }
 
 // No mark is set. Returns the turns, one for each.

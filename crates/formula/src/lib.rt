@@ -16,8 +16,13 @@ ghost use Rattle.formula.specs.Reading.{Ended, Finishes, ReadsRest, Reads};
 ghost use Rattle.formula.specs.Writing.{not_read, WritesStored, Writes};
 
 use clauses::View;
-use opening::Header;
+pub use opening::Header;
 use text::Token;
+
+// The greatest variable, and the greatest number of clauses, by document 01, section 7.
+pub const MAX_VARIABLE: u64 = 16777215;
+
+pub const MAX_CLAUSES: u64 = 16777215;
 
 // Why reading stopped: what stands in the text is not readable, or one of the parts of the store is too short for it.
 #[derive(Clone, Copy, PartialEq, Eq)]

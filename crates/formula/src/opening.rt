@@ -8,6 +8,7 @@ ghost use Rattle.rules.specs.Text.{token};
 ghost use Rattle.text.specs.Scan.{most};
 ghost use Rattle.formula.specs.Opening.{AfterLine, AfterComments, FirstOf, FirstAt, Behind, counted, count_of, header_of};
 
+use crate::{MAX_CLAUSES, MAX_VARIABLE};
 use text::Token;
 
 // The place of the first byte x, or the end.
@@ -92,8 +93,8 @@ pub fn announced(line: &[u8]) -> Option<Header>
 {
     let numbers = line.strip_prefix(b"p cnf ")?;
     let space = place_of(numbers, b' ');
-    let vars = count_of(&numbers[..space], 16777215)?;
-    let clauses = count_of(&numbers[behind(numbers, space)..], 16777215)?;
+    let vars = count_of(&numbers[..space], MAX_VARIABLE)?;
+    let clauses = count_of(&numbers[behind(numbers, space)..], MAX_CLAUSES)?;
     Some(Header {
         vars,
         clauses: clauses as usize,

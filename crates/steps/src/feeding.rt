@@ -11,12 +11,10 @@ ghost use Rattle.formula.specs.Body.{item_of};
 ghost use Rattle.steps.specs.Feeding.{id_within, id_item, Keeps, codes, FedBy, literal_fed, code_fed, FedStart, FedBody, Feeds};
 
 use formula::body::NoLiteral;
-use formula::{Fault, body};
+use formula::{Fault, MAX_VARIABLE, body};
 use text::Token;
 
-// The greatest variable and the greatest id that a step may name.
-pub(crate) const MAX_VARIABLE: u64 = 16777215;
-
+// The greatest id that a step may name.
 pub(crate) const MAX_ID: u64 = 268435455;
 
 // The codes of hints and ids are all below this.

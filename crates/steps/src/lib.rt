@@ -17,8 +17,8 @@ pub mod feeding;
 ghost use Rattle.std.specs.Prelude.{◌≡◌, ◌<◌, ◌≤◌, ◌^◌, length};
 ghost use Rattle.steps.specs.Reading.{Along, GoesOnward, ReadsStep};
 
-use feeding::{Fed, Kind, MAX_ID, MAX_VARIABLE, Phase};
-use formula::Fault;
+use feeding::{Fed, Kind, MAX_ID, Phase};
+use formula::{Fault, MAX_VARIABLE};
 use text::{Scanned, Token};
 
 // A step that was read, and the place behind it; or that none is left.
