@@ -12,7 +12,7 @@ ghost use Rattle.clauses.specs.Store.{id_at, start_at, RoomFor, Placed, written,
 ghost use Rattle.clauses.specs.Finding.{Searchable, Peeks, Finds, Halvings, AtMostHalvings, reached_by};
 ghost use Rattle.clauses.specs.Moving.{Stored, Movable, OneMoved, AllMoved};
 
-// A value, and the turns that the loops made for it.
+// A value, and the turns that it took or stands for.
 #[derive(Clone, Copy)]
 pub struct Timed<T> {
     pub value: T,
@@ -36,25 +36,11 @@ pub struct Compacted {
     pub turns: u64,
 }
 
-// A number of 32 bits, as an index.
-pub fn cell(x: u32) -> usize
-    ensures { result ≡ x }
-{
-    x as usize
-}
-
 // The id that a hint's or a deletion's code has.
 pub fn half(x: u32) -> u64
     ensures { (result ≡ x / 2) × (result < 2 ^ 60) }
 {
     u64::from(x / 2)
-}
-
-// An index, as a number of 64 bits.
-pub fn count(x: usize) -> u64
-    ensures { result ≡ x }
-{
-    x as u64
 }
 
 // Turns and more turns, up to the greatest count.
@@ -74,7 +60,8 @@ pub fn opposite(l: u32) -> u32
     if l % 2 == 0 { l + 1 } else { l - 1 }
 }
 
-// The head of the `k`-th clause: twice its id, plus 1 if it is deleted. (One number, as `Store` has it.)
+// The head of the `k`-th clause: twice its id, plus 1 if it is deleted. (It is one number, no id with a flag: `Store` and `id_at`, which
+// may not change, have it so.)
 pub fn head_at(heads: &[u32], k: usize) -> u64
     requires { 3 * k < length heads.now }
     ensures { result ≡ id_at heads.now k }
@@ -108,8 +95,8 @@ fn reached(id: u64, head: u64) -> usize
     (difference / 9223372036854775808) as usize
 }
 
-// The place of the live clause `id` among the first `n`, by halving. The heads stand three numbers apart, and std's searches look at
-// each number of a slice.
+// The place of the live clause `id` among the first `n`, by halving. (No search of std's: `Halvings` says how many turns there are,
+// which std's contracts do not, and they look at each number of a slice, where the heads stand three apart.)
 pub fn find(heads: &[u32], n: usize, id: u64) -> Timed<Option<usize>>
     requires { Searchable heads.now n id }
     ensures place { Finds heads.now n id result.value }
