@@ -7,12 +7,14 @@ use std::io::{Write, writer};
 
 fn show_read(rt: &HostRuntime, r: Result<Stored, Stopped>) -> std::io::Result<()> {
     match r {
-        Ok(Stored {
-            vars,
-            clauses,
-            used,
-            top,
-        }) => println!(rt; ": stored, V C literals greatest {vars} {clauses} {used} {top}"),
+        Ok(
+            Stored {
+                vars,
+                clauses,
+                used,
+                top,
+            },
+        ) => println!(rt; ": stored, V C literals greatest {vars} {clauses} {used} {top}"),
         Err(Stopped { fault, at, .. }) => match fault {
             Fault::Unreadable => println!(rt; ": unreadable from byte {at}"),
             Fault::TooShort => println!(rt; ": store too short at byte {at}"),
@@ -72,14 +74,14 @@ fn with_little(rt: &HostRuntime, text: &[u8]) -> std::io::Result<()> {
 // Whether there is such an argument; if so, its formula is shown.
 fn one(rt: &HostRuntime, i: usize) -> std::io::Result<bool> {
     let mut path = [0; 4096];
-    let Some(m) = files::argument(rt, i, &mut path) else {
+    let Some(path) = files::argument(rt, i, &mut path) else {
         return Ok(false);
     };
     let mut text = [0; 4096];
-    let n = files::read(rt, &path[..m], &mut text)?;
-    writer(rt).write_all(&path[..m])?;
-    with_room(rt, &text[..n])?;
-    with_little(rt, &text[..n])?;
+    let text = files::read(rt, path, &mut text)?;
+    writer(rt).write_all(path)?;
+    with_room(rt, text)?;
+    with_little(rt, text)?;
     Ok(true)
 }
 

@@ -6,7 +6,7 @@
 // from the document and docs/DECISIONS.md, in another language; they are for a store that is long enough.
 #![tactic(auto)]
 
-ghost use Rattle.std.specs.Prelude.{◌≡◌, length, IfOk};
+ghost use Rattle.std.specs.Prelude.{◌≤◌, length, IfOk};
 ghost use Rattle.io.specs.Counts.{IsPrefixLen};
 
 use checker::{Answer, Work};
@@ -143,29 +143,24 @@ fn with_parts(rt: &HostRuntime, case: Case) -> Result<()> {
     Ok(())
 }
 
-// Puts the file with this name and ending into text, and returns its length. Where it is not there, or reading fails, `text` is as
-// long as it was, and nothing is said of what is in it.
-fn read_file(rt: &HostRuntime, name: &[u8], ending: &[u8], text: &mut [u8]) -> Result<usize>
-    ensures within { IfOk result (λ n. IsPrefixLen n text.new) }
-    ensures long { length text.new ≡ length text.old }
+// The file with this name and ending, or as much of it as there is room for.
+fn read<'a>(rt: &HostRuntime, name: &[u8], ending: &[u8], buffer: &'a mut [u8]) -> Result<&'a [u8]>
+    ensures { IfOk result (λ text. length text.now ≤ length buffer.old) }
 {
     let mut path = [0; 4096];
     let m = append(&mut path, 0, name);
     let n = append(&mut path, m, ending);
-    files::read(rt, &path[..n], text)
+    files::read(rt, &path[..n], buffer)
 }
 
 fn one(rt: &HostRuntime, name: &[u8], parts: bool) -> Result<()> {
     let mut formula = [0; 4096];
-    let f = read_file(rt, name, b".cnf", &mut formula)?;
     let mut proof = [0; 4096];
-    let p = read_file(rt, name, b".lrat", &mut proof)?;
     let mut expected = [0; 4096];
-    let e = read_file(rt, name, b".answer", &mut expected)?;
     let case = Case {
-        formula: &formula[..f],
-        proof: &proof[..p],
-        expected: &expected[..e],
+        formula: read(rt, name, b".cnf", &mut formula)?,
+        proof: read(rt, name, b".lrat", &mut proof)?,
+        expected: read(rt, name, b".answer", &mut expected)?,
     };
     if parts {
         return with_parts(rt, case);
@@ -178,10 +173,10 @@ fn one(rt: &HostRuntime, name: &[u8], parts: bool) -> Result<()> {
 // Whether there is such an argument; if so, its pair is shown.
 fn named(rt: &HostRuntime, i: usize, parts: bool) -> Result<bool> {
     let mut name = [0; 4096];
-    let Some(m) = files::argument(rt, i, &mut name) else {
+    let Some(name) = files::argument(rt, i, &mut name) else {
         return Ok(false);
     };
-    one(rt, &name[..m], parts)?;
+    one(rt, name, parts)?;
     Ok(true)
 }
 

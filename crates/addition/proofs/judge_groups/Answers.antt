@@ -9,8 +9,8 @@ use Rattle.addition.proofs.judge_groups.Goals as goal
 pub loop-group-init : goal.loop-group-init
 loop-group-init c = record {
   going =
-    rw (ap (λ s. chunk_by_rest s) c.into_iter-group-iterator.ensures.into_iter_gives ∙ c.chunk_by-group-items.ensures.rest)
-    (going_start c.args.a.now.within c.requires.group_at);
+      rw (ap (λ s. chunk_by_rest s) c.into_iter-group-iterator.ensures.into_iter_gives ∙ c.chunk_by-group-items.ensures.rest)
+      (going_start c.args.a.now.within c.requires.group_at);
   same = record { marks = refl; tape = refl };
 }
 

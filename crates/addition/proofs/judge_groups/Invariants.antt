@@ -8,7 +8,7 @@ use Rattle.addition.proofs.judge_groups.Given as goal
 abbrev pub invariant-loop-group : goal.invariant-loop-group
 invariant-loop-group l = record {
   going :
-    Going (live_in l.view) l.view.lits.now l.hints l.initial.a.marks.now l.initial.a.tape.now l.initial.a.t l.q l.before l.a.marks.now l.a.tape.now l.a.t
-    l.group-iterator.rest.now l.turns;
+      Going (live_in l.view) l.view.lits.now l.hints l.initial.a.marks.now l.initial.a.tape.now l.initial.a.t l.q l.before l.a.marks.now l.a.tape.now l.a.t
+      l.group-iterator.rest.now l.turns;
   same : Same l.initial.a l.a;
 }
