@@ -19,7 +19,7 @@ use clauses::View;
 pub use opening::Header;
 use text::Token;
 
-// The greatest variable, and the greatest number of clauses, by document 01, section 7.
+// The greatest variable, and the greatest number of clauses, by document 01, sections 2 and 3.
 pub const MAX_VARIABLE: u64 = 16777215;
 
 pub const MAX_CLAUSES: u64 = 16777215;

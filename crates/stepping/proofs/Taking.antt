@@ -1,5 +1,5 @@
 -- Taking one step: what was read is judged, and what that comes to for the run. Assumes nothing.
-use Rattle.std.specs.Prelude.{Result, Ok, Err}
+use Rattle.std.specs.Prelude.{Option, Some, None, Result, Ok, Err}
 use Rattle.std.proofs.Common.{ℕ, ◌+◌, ◌-◌, ◌*◌, ◌^◌, ◌<◌, ◌≤◌, ◌≡◌, refl, sym, ap, ◌∙◌, inl, inr, ⊎_elim, List, map, arith, add-mul, mul_comm, mul-le-mul, length, get_or, take, drop, length-drop, length-take-le}
 use Rattle.std.proofs.Math.Option.{some}
 use Rattle.rules.specs.Text.{tokens}
@@ -14,7 +14,8 @@ use Rattle.formula.specs.Body.{Placed}
 use Rattle.formula.proofs.Fillings.{placed_front, placed_length, placed_slice, placed_below}
 use Rattle.steps.specs.Reading.{StepAdded, StepDeleted, StepNone, StepStopped, StepShort, FaultCase, ReadsStep}
 use Rattle.steps.specs.declared.Step.{Step as ReadStep}
-use Rattle.steps.specs.declared.Step.TheVariants.{Addition, Deletion, Nothing as NoStep}
+use Rattle.steps.specs.declared.Step.TheVariants.{Addition, Deletion}
+use Rattle.steps.specs.declared.Read.{Read}
 use Rattle.steps.specs.declared.Stopped.{Stopped}
 use Rattle.formula.specs.declared.Fault.{Fault}
 use Rattle.formula.specs.declared.Fault.TheVariants.{Unreadable as NotReadable, TooShort as NoRoom}
@@ -100,8 +101,8 @@ module _ (proof : List ℕ) (at : ℕ) (b : Between) (heads lits hints marks tap
 
   -- An addition
 
-  module _ (lits' hints' : List ℕ) (r : Result ReadStep Stopped) (rd : ReadsStep (length marks) proof at b.used lits hints lits' hints' r)
-      (step : ReadStep) (f : r ≡ Ok step) (id end many next : ℕ) (g : step ≡ Addition id end many next) where
+  module _ (lits' hints' : List ℕ) (r : Result Read Stopped) (rd : ReadsStep (length marks) proof at b.used lits hints lits' hints' r)
+      (step : Option ReadStep) (next : ℕ) (f : r ≡ Ok (record { step = step; next = next })) (id end many : ℕ) (g : step ≡ Some (Addition id end many)) where
     a : StepAdded (length marks) proof at b.used lits hints lits' hints' id end many next
     a = rw (f, g) at rd.case
 
@@ -205,8 +206,8 @@ module _ (proof : List ℕ) (at : ℕ) (b : Between) (heads lits hints marks tap
 
   -- A deletion
 
-  module _ (lits' hints' : List ℕ) (r : Result ReadStep Stopped) (rd : ReadsStep (length marks) proof at b.used lits hints lits' hints' r)
-      (step : ReadStep) (f : r ≡ Ok step) (many next : ℕ) (g : step ≡ Deletion many next) where
+  module _ (lits' hints' : List ℕ) (r : Result Read Stopped) (rd : ReadsStep (length marks) proof at b.used lits hints lits' hints' r)
+      (step : Option ReadStep) (next : ℕ) (f : r ≡ Ok (record { step = step; next = next })) (many : ℕ) (g : step ≡ Some (Deletion many)) where
     d : StepDeleted proof at lits hints lits' hints' many next
     d = rw (f, g) at rd.case
 
@@ -279,10 +280,10 @@ module _ (proof : List ℕ) (at : ℕ) (b : Between) (heads lits hints marks tap
 
   -- No step
 
-  module _ (lits' hints' : List ℕ) (r : Result ReadStep Stopped) (rd : ReadsStep (length marks) proof at b.used lits hints lits' hints' r) where
-    pub nothing_taken : (step : ReadStep) → r ≡ Ok step → (next : ℕ) → step ≡ NoStep next → (heads' lits'' marks' : List ℕ) (o : Outcome) (place turns : ℕ) → o ≡ Ok Nothing
+  module _ (lits' hints' : List ℕ) (r : Result Read Stopped) (rd : ReadsStep (length marks) proof at b.used lits hints lits' hints' r) where
+    pub nothing_taken : (step : Option ReadStep) (next : ℕ) → r ≡ Ok (record { step = step; next = next }) → step ≡ None → (heads' lits'' marks' : List ℕ) (o : Outcome) (place turns : ℕ) → o ≡ Ok Nothing
         → Spent (length proof - at) 0 (length proof - at) turns → TakesStep proof at b heads lits hints marks tape heads' lits'' marks' o place turns
-    nothing_taken step f next g heads' lits'' marks' o place turns eo s =
+    nothing_taken step next f g heads' lits'' marks' o place turns eo s =
         let x : StepNone proof at lits hints lits' hints' next = rw (f, g) at rd.case in
         rw eo
         (record {

@@ -17,7 +17,7 @@ use addition::Ground;
 use assignment::Assignment;
 use clauses::{Timed, View};
 use formula::Fault;
-use steps::Step;
+use steps::{Read, Step};
 
 // The parts of the work store that a caller lends: `heads` and `lits` (the clauses), `hints` (the hints or ids of one step), `guess`
 // (where clauses probably are), `marks` and `tape` (the assignment). A part that is only read is reborrowed as `&mut`, too, since a
@@ -280,23 +280,18 @@ pub fn take_step(proof: &[u8], at: usize, b: Between, work: &mut Work) -> Taken
     let bytes = proof.len() - at;
     let cells = work.marks.len();
     match steps::read_step(proof, at, b.used, cells, work.lits, work.hints) {
-        Ok(
-            Step::Addition {
-                id,
-                end,
-                many,
-                next,
-            },
-        ) => {
-            let codes = (end - b.used) + many;
-            Taken::read(work.add(b, id, end, many), next, next - at, codes)
-        }
-        Ok(Step::Deletion { many, next }) => {
-            let hints: &[u32] = &mut *work.hints;
-            let deleted = delete(work.heads, work.lits, &hints[..many], work.guess, b);
-            Taken::read(deleted, next, next - at, many)
-        }
-        Ok(Step::Nothing { next }) => Taken::unread(Ok(Progress::Nothing), next, bytes, 0),
+        Ok(Read { step, next }) => match step {
+            Some(Step::Addition { id, end, many }) => {
+                let codes = (end - b.used) + many;
+                Taken::read(work.add(b, id, end, many), next, next - at, codes)
+            }
+            Some(Step::Deletion { many }) => {
+                let hints: &[u32] = &mut *work.hints;
+                let deleted = delete(work.heads, work.lits, &hints[..many], work.guess, b);
+                Taken::read(deleted, next, next - at, many)
+            }
+            None => Taken::unread(Ok(Progress::Nothing), next, bytes, 0),
+        },
         Err(stopped) => {
             let codes = (stopped.end - b.used) + stopped.many;
             Taken::unread(Err(Failure::from(stopped.fault)), stopped.at, bytes, codes)

@@ -1,5 +1,5 @@
 -- Reading a step from a text: the state of the reader between two tokens, and what a token makes of it. Assumes nothing.
-use Rattle.std.specs.Prelude.{Ok, Err}
+use Rattle.std.specs.Prelude.{Some, None, Ok, Err}
 use Rattle.std.proofs.Common.{ℕ, ◌+◌, ◌≤◌, ◌<◌, ◌≡◌, ◌⊎◌, Bool, true, false, List, [], ◌∷◌, ◌++◌, map, ltb, length, drop}
 use Rattle.std.proofs.Common.{refl, sym, ap, subst, ◌∙◌, inl, inr, ⊎_elim, append_assoc, arith, ltb-true, ltb-false, length-append, length-drop, take-append-drop}
 use Rattle.std.proofs.Math.Option.{none}
@@ -23,7 +23,7 @@ use Rattle.steps.specs.declared.feeding.Kind.{Kind}
 use Rattle.steps.specs.declared.feeding.Kind.TheVariants.{Start, Body, Literals, Hints, Ids}
 use Rattle.steps.specs.declared.feeding.Phase.{Phase}
 use Rattle.steps.specs.declared.feeding.Fed.TheVariants.{More, Addition, Deletion}
-use Rattle.steps.specs.declared.Step.TheVariants.{Addition as Added, Deletion as Deleted, Nothing as NoStep}
+use Rattle.steps.specs.declared.Step.TheVariants.{Addition as Added, Deletion as Deleted}
 use Rattle.steps.proofs.Partials.{resume_end, resume-advance, Counted, advance-counted, reach-start, reach_more, resume-reach, reach-taken}
 use Rattle.steps.proofs.Feedings.{placed_none, placed_same}
 
@@ -173,7 +173,7 @@ module _ {cells : ℕ} {s : List ℕ} {at used : ℕ} {lits₀ hints₀ lits hin
           }
 
     -- The step is whole.
-    pub reading-added : {m end many : ℕ} → fed ≡ Ok (Addition m end many) → ReadsStep cells s at used lits₀ hints₀ lits' hints' (Ok (Added m end many n))
+    pub reading-added : {m end many : ℕ} → fed ≡ Ok (Addition m end many) → ReadsStep cells s at used lits₀ hints₀ lits' hints' (Ok (record { step = Some (Added m end many); next = n }))
     unfolding afterwards
     reading-added {m} {end} {many} e =
         let next = found_some (λ q. let z : ◌≡◌ {A = ℕ} 0 1 = cc in omega arith) in
@@ -202,7 +202,7 @@ module _ {cells : ℕ} {s : List ℕ} {at used : ℕ} {lits₀ hints₀ lits hin
           };
         }
 
-    pub reading_deleted : {many : ℕ} → fed ≡ Ok (Deletion many) → ReadsStep cells s at used lits₀ hints₀ lits' hints' (Ok (Deleted many n))
+    pub reading_deleted : {many : ℕ} → fed ≡ Ok (Deletion many) → ReadsStep cells s at used lits₀ hints₀ lits' hints' (Ok (record { step = Some (Deleted many); next = n }))
     unfolding afterwards
     reading_deleted {many} e =
         let next = found_some (λ q. let z : ◌≡◌ {A = ℕ} 0 1 = cc in omega arith) in
@@ -299,7 +299,7 @@ module _ {cells : ℕ} {s : List ℕ} {at used : ℕ} {lits₀ hints₀ lits hin
           }
 
       -- There is none if the text ends where it was to begin, and else it is unreadable.
-      pub reading_none : t ≡ Nothing → i ≡ at → ReadsStep cells s at used lits₀ hints₀ lits' hints' (Ok (NoStep n))
+      pub reading_none : t ≡ Nothing → i ≡ at → ReadsStep cells s at used lits₀ hints₀ lits' hints' (Ok (record { step = None; next = n }))
       reading_none q h = record { case = nothing_read q h }
 
       reading_bad : (t ≡ Nothing → ⊥) ⊎ (i ≡ at → ⊥) → ReadsStep cells s at used lits₀ hints₀ lits' hints' (Err (stopped_at Unreadable i phase.end phase.many))

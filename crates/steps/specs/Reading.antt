@@ -1,5 +1,5 @@
 -- What reading a step from a text comes to, in terms of document 01's `read_step`.
-use Rattle.std.specs.Prelude.{ℕ, ◌+◌, ◌*◌, ◌<◌, ◌≤◌, ◌≡◌, ◌⊎◌, List, [], ◌∷◌, ◌++◌, map, length, drop, Result, Ok, Err}
+use Rattle.std.specs.Prelude.{ℕ, ◌+◌, ◌*◌, ◌<◌, ◌≤◌, ◌≡◌, ◌⊎◌, List, [], ◌∷◌, ◌++◌, map, length, drop, Option, Some, None, Result, Ok, Err}
 use Rattle.std.proofs.Math.Option.{none, some}
 use Rattle.rules.specs.Limits.{max_variable, max_id}
 use Rattle.rules.specs.Text.{Token, tokens}
@@ -13,7 +13,8 @@ use Rattle.steps.specs.Feeding.{phase_of, IsId, Stands, NextLiteral}
 use Rattle.steps.specs.declared.feeding.Kind.TheVariants.{Literals, Hints}
 use Rattle.steps.specs.declared.feeding.Phase.{Phase}
 use Rattle.steps.specs.declared.Step.{Step}
-use Rattle.steps.specs.declared.Step.TheVariants.{Addition, Deletion, Nothing}
+use Rattle.steps.specs.declared.Step.TheVariants.{Addition, Deletion}
+use Rattle.steps.specs.declared.Read.{Read}
 use Rattle.steps.specs.declared.Stopped.{Stopped}
 
 -- Where the reader stands between two tokens: those of `front` are read, and make the part of a step that the phase and the
@@ -141,11 +142,14 @@ abbrev pub FaultCase : ℕ → List ℕ → ℕ → ℕ → List ℕ → List �
 FaultCase cells s at used lits hints lits' hints' Unreadable stop end many = StepBad s at used lits hints lits' hints' stop end many
 FaultCase cells s at used lits hints lits' hints' TooShort stop end many = StepShort cells s at used lits hints lits' hints' stop end many
 
-abbrev pub StepCase : ℕ → List ℕ → ℕ → ℕ → List ℕ → List ℕ → List ℕ → List ℕ → Result Step Stopped → Type 0
-StepCase cells s at used lits hints lits' hints' (Ok (Addition n end many next)) = StepAdded cells s at used lits hints lits' hints' n end many next
-StepCase cells s at used lits hints lits' hints' (Ok (Deletion many next)) = StepDeleted s at lits hints lits' hints' many next
-StepCase cells s at used lits hints lits' hints' (Ok (Nothing next)) = StepNone s at lits hints lits' hints' next
+abbrev pub KindCase : ℕ → List ℕ → ℕ → ℕ → List ℕ → List ℕ → List ℕ → List ℕ → Option Step → ℕ → Type 0
+KindCase cells s at used lits hints lits' hints' (Some (Addition n end many)) next = StepAdded cells s at used lits hints lits' hints' n end many next
+KindCase cells s at used lits hints lits' hints' (Some (Deletion many)) next = StepDeleted s at lits hints lits' hints' many next
+KindCase cells s at used lits hints lits' hints' None next = StepNone s at lits hints lits' hints' next
+
+abbrev pub StepCase : ℕ → List ℕ → ℕ → ℕ → List ℕ → List ℕ → List ℕ → List ℕ → Result Read Stopped → Type 0
+StepCase cells s at used lits hints lits' hints' (Ok r) = KindCase cells s at used lits hints lits' hints' r.step r.next
 StepCase cells s at used lits hints lits' hints' (Err r) = FaultCase cells s at used lits hints lits' hints' r.fault r.at r.end r.many
 
-pub record ReadsStep (cells : ℕ) (s : List ℕ) (at used : ℕ) (lits hints lits' hints' : List ℕ) (r : Result Step Stopped) : Type 0 where
+pub record ReadsStep (cells : ℕ) (s : List ℕ) (at used : ℕ) (lits hints lits' hints' : List ℕ) (r : Result Read Stopped) : Type 0 where
   pub case : StepCase cells s at used lits hints lits' hints' r

@@ -18,25 +18,22 @@ ghost use Rattle.std.specs.Prelude.{◌≡◌, ◌<◌, ◌≤◌, ◌^◌, leng
 ghost use Rattle.steps.specs.Reading.{Along, GoesOnward, ReadsStep};
 
 use feeding::{Fed, Kind, MAX_ID, Phase};
+use formula::body::Progress;
 use formula::{Fault, MAX_VARIABLE};
 use text::{Scanned, Token};
 
-// A step that was read, and the place behind it; or that none is left.
+// A step that was read: the id of an addition, the end of its literals and the number of its hints; or how many ids a deletion has.
 #[derive(Clone, Copy)]
 pub enum Step {
-    Addition {
-        id: u64,
-        end: usize,
-        many: usize,
-        next: usize,
-    },
-    Deletion {
-        many: usize,
-        next: usize,
-    },
-    Nothing {
-        next: usize,
-    },
+    Addition { id: u64, end: usize, many: usize },
+    Deletion { many: usize },
+}
+
+// The step that was read, unless none is left, and the place behind it.
+#[derive(Clone, Copy)]
+pub struct Read {
+    pub step: Option<Step>,
+    pub next: usize,
 }
 
 // Why and where reading a step stopped, and what had been stored by then.
@@ -48,35 +45,28 @@ pub struct Stopped {
     pub many: usize,
 }
 
-// How far short numbers were taken: the place behind the last one in the text, and in the slice.
-// Two numbers come back in registers; tried: the second behind a `&mut`, with a fiftieth more instructions where steps are short.
-#[derive(Clone, Copy)]
-struct Passed {
-    next: usize,
-    end: usize,
-}
-
 // Takes short numbers one after the other from `from` on, as long as their codes are below `limit` and there is room for them
 // in the slice from `first` on. Nearly all tokens of a proof in use are taken here; whatever is not as expected is left to
-// `feed`, which decides. (The whole slice and a place in it, and not what lies behind: a place is what the reader keeps.)
-fn along(s: &[u8], from: usize, limit: u64, slots: &mut [u32], first: usize) -> Passed
+// `feed`, which decides. (The whole slice and a place in it, and not what lies behind: a place is what the reader keeps. Two numbers
+// come back in registers; tried: the second behind a `&mut`, with a fiftieth more instructions where steps are short.)
+fn along(s: &[u8], from: usize, limit: u64, slots: &mut [u32], first: usize) -> Progress
     requires from_in_bounds { from ≤ length s.now }
     requires limit_bound { limit ≤ 2 ^ 32 }
-    ensures { Along s.now from first limit slots.old slots.new result.next result.end }
+    ensures { Along s.now from first limit slots.old slots.new result.next result.used }
 {
     let mut next = from;
     for end in first..slots.len() {
         let r = text::short_at(s, next);
         let code = r / 16;
         if r == 0 || limit <= code {
-            return Passed { next, end };
+            return Progress { next, used: end };
         }
         slots[end] = code as u32;
         next += (r % 16) as usize;
     }
-    Passed {
+    Progress {
         next,
-        end: slots.len().max(first),
+        used: slots.len().max(first),
     }
 }
 
@@ -97,12 +87,12 @@ fn go_on(
         Kind::Literals => {
             let limit = (cells as u64).min(2 * MAX_VARIABLE + 2);
             let passed = along(s, from, limit, lits, phase.end);
-            phase.end = passed.end;
+            phase.end = passed.used;
             passed.next
         }
         Kind::Hints => {
             let passed = along(s, from, 2 * MAX_ID + 2, hints, phase.many);
-            phase.many = passed.end;
+            phase.many = passed.used;
             passed.next
         }
     }
@@ -117,7 +107,7 @@ pub fn read_step(
     cells: usize,
     lits: &mut [u32],
     hints: &mut [u32],
-) -> Result<Step, Stopped>
+) -> Result<Read, Stopped>
     requires at_in_bounds { at ≤ length s.now }
     requires used_in_bounds { used ≤ length lits.old }
     ensures { ReadsStep cells s.now at used lits.old hints.old lits.new hints.new result }
@@ -136,17 +126,18 @@ pub fn read_step(
                 phase = on;
                 i = go_on(s, next, cells, lits, hints, &mut phase);
             }
-            Ok(Fed::Addition { id, end, many }) => return Ok(Step::Addition {
-                id,
-                end,
-                many,
-                next,
-            }),
-            Ok(Fed::Deletion { many }) => return Ok(Step::Deletion { many, next }),
+            Ok(Fed::Addition { id, end, many }) => {
+                let step = Some(Step::Addition { id, end, many });
+                return Ok(Read { step, next });
+            }
+            Ok(Fed::Deletion { many }) => {
+                let step = Some(Step::Deletion { many });
+                return Ok(Read { step, next });
+            }
             Err(fault) => {
                 // A text that ends where a step was to begin has none left.
                 if i == at && token == Token::Nothing {
-                    return Ok(Step::Nothing { next });
+                    return Ok(Read { step: None, next });
                 }
                 return Err(Stopped {
                     fault,
