@@ -21,6 +21,7 @@ pub use stepping::Work;
 use stepping::{Between, Failure};
 
 // The answers of document 01, section 1.
+// (Refusals stand beside the others in one enum, and not in a Result: `Exact` and `Means`, which may not change, speak of these cases.)
 #[derive(Clone, Copy)]
 pub enum Answer {
     Verified { step: u64 },

@@ -11,6 +11,7 @@ use clauses::{Timed, View};
 
 // What a deletion came to: all ids were live; or this one was not. `dead` is one for each clause that was deleted before that and
 // one for each of its literals, and `turns` how many turns the loops made, up to the greatest count.
+// (A bare id is the error: there is one ground, and the id is all that is to be said, so an enum would be no plainer.)
 #[derive(Clone, Copy)]
 pub struct Deleted {
     pub outcome: Result<(), u64>,
@@ -31,6 +32,7 @@ fn remove(heads: &mut [u32], k: usize) -> usize
 }
 
 // Deletes the clause `id`, and comes to one and the number of its literals; or to nothing, if it is not live.
+// (No literals are lent, since a lookup reads none: one more struct within `View`, for the lookups alone, would be no plainer.)
 fn delete_one(heads: &mut [u32], n: usize, guess: &[u32], id: u64) -> Timed<Option<usize>>
     requires { Deletable heads.old n id }
     ensures { DeletesOne heads.old n id heads.new result.value result.turns }

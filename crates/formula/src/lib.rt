@@ -2,6 +2,7 @@
 //
 // The way of the data: `opening` passes the comment lines and reads the line `p cnf V C`; `body` reads the clauses; `writer`
 // (a crate of its own) writes them out. Room goes by what occurs in the text and not by what the header announces.
+// The functions take a text and a place in it: `ReadsClause` and `ReadsBody` speak of places in the whole text, and may not change.
 // What is promised of unreadable bytes is only that they are found out, and of a store that is too short that it was.
 #![tactic(auto)]
 
@@ -32,6 +33,7 @@ pub enum Fault {
 }
 
 // Where reading stopped, and why: the place in the text, how many literals were stored, and how many clauses were closed.
+// (`steps::Stopped` has the same shape, but hints are counted there and clauses here: one struct would have names that fit neither.)
 #[derive(Clone, Copy)]
 pub struct Stopped {
     pub fault: Fault,
@@ -104,6 +106,7 @@ fn read_rest(
 }
 
 // Reads a formula into the store.
+// (`heads` and `lits` stand apart: the C interface lends them as two slices, and `Reads` names both, before and after.)
 pub fn read(formula: &[u8], heads: &mut [u32], lits: &mut [u32]) -> Result<Stored, Stopped>
     ensures { Reads formula.now heads.old lits.old heads.new lits.new result }
 {
@@ -141,6 +144,7 @@ impl From<Stopped> for NotWritten {
 
 // The formula that lies in the store goes to the output, if it fits; else the output stays as it was. Returns how many bytes
 // were written.
+// (`Formed` is asked here and in `writer` and is no ghost field of `View`: other crates build views of stores that are not formed so.)
 fn write_stored(view: View, vars: u64, out: &mut [u8]) -> Result<usize, NotWritten>
     requires { Formed view.heads.now view.lits.now view.n }
     ensures { WritesStored (formula_of view.entry.heads.now view.entry.lits.now view.entry.n vars) out.old out.new result }

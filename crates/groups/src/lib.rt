@@ -20,6 +20,7 @@ pub fn contains(clause: &[u32], x: u32) -> bool
 }
 
 // The first place from `from` on where a group begins, or the end.
+// (A hint with which a group begins is told by its last bit, and not by an enum: the C interface lends a slice of `u32` for the hints.)
 pub fn next_group(hints: &[u32], from: usize) -> usize
     requires { from ≤ length hints.now }
     ensures { NextGroup hints.now from result }
@@ -51,6 +52,7 @@ fn examine(view: View, k: usize, q: u32) -> Timed<bool>
 }
 
 // The place of the group behind that at `at`, which must be the group of the clause `id`. On Err, the id at fault.
+// (A bare id is the error, here and below: there is one ground, and the id is all that is to be said, so an enum would be no plainer.)
 fn take_group(id: u64, hints: &[u32], at: usize) -> Result<usize, u64>
     requires { GroupAt hints.now at }
     ensures { TakesCase id hints.now at result }

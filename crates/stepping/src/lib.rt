@@ -21,7 +21,7 @@ use steps::{Read, Step};
 
 // The parts of the work store that a caller lends: `heads` and `lits` (the clauses), `hints` (the hints or ids of one step), `guess`
 // (where clauses probably are), `marks` and `tape` (the assignment). A part that is only read is reborrowed as `&mut`, too, since a
-// shared reborrow beside those of other fields has no rule yet.
+// shared reborrow beside those of other fields has no rule yet. (A mark is a byte and no bool: the C interface lends bytes.)
 #[derive(Drop)]
 pub struct Work<'a> {
     pub heads: &'a mut [u32],
@@ -43,6 +43,7 @@ pub struct Between {
 }
 
 // What a step comes to that is taken: the proof goes on; the empty clause was added; or there is no step left.
+// (`Nothing` is a case and no Option round the two others: `TakeCase` promises something of its own of each of the three.)
 #[derive(Clone, Copy)]
 pub enum Progress {
     On(Between),

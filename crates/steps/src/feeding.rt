@@ -3,6 +3,7 @@
 //
 // The literals go behind the first `used` of `lits`, and the hints, or the ids to delete, to the start of `hints`: a hint as
 // twice the id of a clause to look at, plus 1 where the group of the clause begins; an id to delete as twice the id.
+// (The last bit of a number tells hints apart, and no enum does: the C interface lends a slice of `u32` for them, and memory is fixed.)
 // There is no loop here. A token that makes the step unreadable, or finds a slice full, changes nothing. What the slices have
 // behind the last code is not promised to mean anything.
 ghost use Rattle.std.specs.Prelude.{◌≡◌};
@@ -21,6 +22,7 @@ pub(crate) const MAX_ID: u64 = 268435455;
 const CODES: usize = 4294967296;
 
 // What is known of a step: nothing; its id; literals; hints; ids to delete.
+// (The id stands beside the kind, 0 where none is known: `Stands` and `Midway`, by which `feed` promises, speak of both for every kind.)
 #[derive(Clone, Copy)]
 pub enum Kind {
     Start,
@@ -148,6 +150,7 @@ impl Phase {
     }
 
     // One token more.
+    // (A match and no closure: a phase is a plain value, kept between two tokens; a closure would be boxed there, and there is no heap.)
     pub fn feed(
         self,
         t: Token,

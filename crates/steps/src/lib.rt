@@ -6,6 +6,8 @@
 // its hints but that they are what the text says. Of an unreadable step it is promised that it is found out, and of slices that
 // are too short that they are; either way the first `used` of `lits` stay.
 //
+// The functions take a text and a place in it: `Along` and `ReadsStep` speak of places in the whole text, and may not change.
+//
 // The turns of the two loops can be told from what is returned: one for each token taken (exactly, behind a whole step; up to
 // two tokens more than there are codes, where it stopped), one more where it stopped or nothing was left, and the bytes passed
 // for the leaves below. The look that ends `along` moves nothing on and is no turn; there is at most one for each token that is
@@ -37,6 +39,7 @@ pub struct Read {
 }
 
 // Why and where reading a step stopped, and what had been stored by then.
+// (The shape of `formula::Stopped`, but hints are counted here and clauses there: one struct would have names that fit neither.)
 #[derive(Clone, Copy)]
 pub struct Stopped {
     pub fault: Fault,

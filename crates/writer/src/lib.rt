@@ -1,8 +1,10 @@
 // Writing a formula that lies in the store of clauses out as bytes, as `rules` defines it in `Written`: the line
 // `p cnf V C`, then one clause to a line, no comments, single spaces.
 //
-// Each function that writes gets a slice, the place to write at and what to write, and says where the text ends. It asks for
-// enough room: `written_length` finds out before anything is written how much that is, and stops as soon as it is too much.
+// Each function that writes gets a slice, the place to write at and what to write, and says where the text ends. (`write_number`'s
+// clause `Wrote out.old at ..` speaks of places in the whole slice, and may not change.) It asks for enough room: `written_length`
+// finds out before anything is written how much that is, and stops as soon as it is too much.
+// (`Formed` stands in four contracts and is no ghost field of `View`: other crates build views of stores that are not formed so.)
 // Nothing is promised of a store that is not formed as `Formed` says, and nothing is said of whether the clauses' variables
 // are at most `vars`.
 //
