@@ -86,6 +86,7 @@ pub fn start_at(heads: &[u32], k: usize) -> usize
 }
 
 // 1 if `head` has an id of at most `id`, else 0. The difference stands for the test, so that no branch is taken on it.
+// (Tried: `usize::from(head / 2 <= id)`, of which LLVM makes a branch.)
 #[tactic(auto, using(crate::proofs::Searching::reached_by_lem))]
 fn reached(id: u64, head: u64) -> usize
     requires { id < 2 ^ 60 }
@@ -223,12 +224,9 @@ pub fn note(guess: &mut [u32], id: u64, place: usize)
     let Some(at) = slot(guess, id) else {
         return;
     };
-    // Tried: u32::try_from, which takes four instructions more for each clause of a formula.
-    let moved = below(id, place);
-    if moved > u32::MAX as usize {
+    let Ok(now) = u32::try_from(below(id, place)) else {
         return;
-    }
-    let now = moved as u32;
+    };
     if guess[at] != now {
         guess[at] = now;
     }

@@ -1,8 +1,9 @@
 -- Eight bytes as one number: what its bytes are, what they say as digits, and what is left of them once they are moved up.
 -- Assumes nothing.
-use Rattle.std.proofs.Common.{◌≡◌, ℕ, zero, suc, ◌+◌, ◌*◌, ◌/◌, ◌%◌, ◌^◌, ◌<◌, ◌≤◌, eqb, List, get_or}
-use Rattle.std.proofs.Common.{sym, refl, ap, ◌∙◌, mod-eq_of_lt, mul_assoc, suc-add, pow-suc, zero-add, mul-one, arith, pow-add, eqb-true}
+use Rattle.std.proofs.Common.{◌≡◌, ℕ, zero, suc, ◌+◌, ◌*◌, ◌/◌, ◌%◌, ◌^◌, ◌<◌, ◌≤◌, eqb, List, get_or, length, take, drop, min}
+use Rattle.std.proofs.Common.{sym, refl, ap, ◌∙◌, mod-eq_of_lt, mul_assoc, suc-add, pow-suc, zero-add, mul-one, arith, pow-add, add-zero, eqb-true, get_or-take, get_or-drop, length-take}
 use Rattle.std.proofs.Math.Arith.{mod-mul}
+use Rattle.std.proofs.lemmas.Int.{clamps}
 use lib.Bits.{bit_and, and_block, and_high}
 use Rattle.text.specs.Scan.{bytes_at, Bytes, EachUpTo, EachAtMost, Tells, said}
 
@@ -65,6 +66,19 @@ eight_bytes s at r small is =
       is = omega (arith, is, bytes_on s at 7, bytes_on s at 6, bytes_on s at 5, bytes_on s at 4, bytes_on s at 3, bytes_on s at 2, bytes_on s at 1);
       bytes = λ i l h. small i;
     }
+
+-- The same of eight bytes that were cut off.
+pub eight_cut : (s bytes : List ℕ) (at m r : ℕ) → 8 ≤ length (take m (drop at s)) → bytes ≡ take 8 (take m (drop at s)) → ((i : ℕ) → get_or s i 0 < 256) → r ≡ get_or bytes 0 0 + get_or bytes 1 0 * 256 ^ 1 +
+    get_or bytes 2 0 * 256 ^ 2 + get_or bytes 3 0 * 256 ^ 3 + get_or bytes 4 0 * 256 ^ 4 + get_or bytes 5 0 * 256 ^ 5 + get_or bytes 6 0 * 256 ^ 6 + get_or bytes 7 0 * 256 ^ 7 → Bytes s at 8 r
+eight_cut s bytes at m r long same small is =
+    let first : get_or bytes 0 0 ≡ get_or s at 0 = rw add-zero at (reads 0 (omega arith)) in
+    eight_bytes s at r small (rw (← first, ← reads 1 (omega arith), ← reads 2 (omega arith), ← reads 3 (omega arith), ← reads 4 (omega arith), ← reads 5 (omega arith), ← reads 6 (omega arith), ← reads 7 (omega arith)) is)
+  where
+    reads : (k : ℕ) → k < 8 → get_or bytes k 0 ≡ get_or s (at + k) 0
+    reads k h =
+        let room : length (take m (drop at s)) ≡ min m (length (drop at s)) = length-take m (drop at s) in
+        ap (λ (xs : List ℕ). get_or xs k 0) same
+        ∙ (get_or-take 8 (take m (drop at s)) k 0 h ∙ (get_or-take m (drop at s) k 0 (omega (arith, clamps, room, long, h)) ∙ get_or-drop at s k 0))
 
 -- Moved up by one byte more.
 module _ (n k x : ℕ) where

@@ -203,21 +203,13 @@ pub fn token_at(s: &[u8], at: usize) -> Scanned
     })
 }
 
-// Eight bytes as one number, the first of them lowest.
-fn eight(s: &[u8], at: usize) -> u64
-    requires { at + 7 < length s.now }
-    ensures { Bytes s.now at 8 result }
+// The first eight bytes from `at` on as one number, the first of them lowest; none if there are fewer.
+fn eight(s: &[u8], at: usize) -> Option<u64>
+    requires { at ≤ length s.now }
+    ensures { IfSome result (λ w. Bytes s.now at 8 w) }
 {
-    u64::from_le_bytes([
-        s[at],
-        s[at + 1],
-        s[at + 2],
-        s[at + 3],
-        s[at + 4],
-        s[at + 5],
-        s[at + 6],
-        s[at + 7],
-    ])
+    let bytes = s[at..].first_chunk::<8>()?;
+    Some(u64::from_le_bytes(*bytes))
 }
 
 // How many of eight bytes probably stand before the first space: before the first byte behind the lowest that has not the bit
@@ -265,7 +257,7 @@ fn short(s: &[u8], at: usize) -> Option<u64>
     if s.len() - at < 16 || s[at] != b' ' {
         return None;
     }
-    let w = eight(s, at + 1);
+    let w = eight(s, at + 1)?;
     let n = before_space(w);
     if !matches!(n, 1..=7) || s[at + 1 + n] != b' ' {
         return None;
