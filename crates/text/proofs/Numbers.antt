@@ -9,7 +9,7 @@ use Rattle.meaning.proofs.Truth.{bool_cases}
 use Rattle.rules.specs.Text.{is_blank, is_digit, digits, positive, word}
 use Rattle.rules.proofs.Words.{digit_range, digit_not_blank}
 use Rattle.text.specs.Scan.{most, ends_word, sized, Behind, Stops, Numbered, Ran, Digits, Positive}
-use Rattle.text.specs.declared.Number.{Number}
+use Rattle.text.specs.declared.Scanned.{Scanned}
 use Rattle.text.proofs.Places.{word_end, word_on, word-stop, ends_empty, ends-not, digit_by}
 
 -- Sized numbers
@@ -26,15 +26,15 @@ high_same v v' (b ∷ w) h h' =
     (λ n. rw (n, digits))
 
 -- Above `most` it makes no difference which number it is.
-pub numbered_high : (v v' at : ℕ) (s : List ℕ) (found : Maybe Number) → most ≤ v → most ≤ v' → Numbered v at s found → Numbered v' at s found
+pub numbered_high : (v v' at : ℕ) (s : List ℕ) (found : Maybe (Scanned ℕ)) → most ≤ v → most ≤ v' → Numbered v at s found → Numbered v' at s found
 numbered_high v v' at s found h h' r = record { is_size = r.is_size ∙ high_same v v' (word s) h h'; is_next = r.is_next }
 
 -- At a place
 
 -- The word ends there.
-pub numbered_end : (s : List ℕ) (n : Number) → n.value ≤ most → ends_word (drop n.next s) ≡ true → Numbered n.value n.next (drop n.next s) (Some n)
+pub numbered_end : (s : List ℕ) (n : Scanned ℕ) → n.token ≤ most → ends_word (drop n.next s) ≡ true → Numbered n.token n.next (drop n.next s) (Some n)
 unfolding digits
-numbered_end s n h e = record { is_size = rw (ends_empty s n.next e) (small_sized n.value h); is_next = omega (arith, ap length (ends_empty s n.next e)) }
+numbered_end s n h e = record { is_size = rw (ends_empty s n.next e) (small_sized n.token h); is_next = omega (arith, ap length (ends_empty s n.next e)) }
 
 module _ (s : List ℕ) (i v : ℕ) where
   -- A byte stands there that is no digit and ends no word.
@@ -45,7 +45,7 @@ module _ (s : List ℕ) (i v : ℕ) where
       record { is_size = rw (word_on s i g.0 g.1, d.stops g.0, digits); is_next = tt }
 
   -- A digit stands there.
-  pub numbered_on : (found : Maybe Number) → i < length s → is_digit (get_or s i 0) ≡ true → Numbered (v * 10 + (get_or s i 0 - 48)) (i + 1) (drop (i + 1) s) found → Numbered v i (drop i s) found
+  pub numbered_on : (found : Maybe (Scanned ℕ)) → i < length s → is_digit (get_or s i 0) ≡ true → Numbered (v * 10 + (get_or s i 0 - 48)) (i + 1) (drop (i + 1) s) found → Numbered v i (drop i s) found
   unfolding digits
   numbered_on found h d r =
       let w = word_on s i h (digit_not_blank (get_or s i 0) d) in
@@ -53,10 +53,10 @@ module _ (s : List ℕ) (i v : ℕ) where
       record { is_size = rw (w, d, digits) r.is_size; is_next = rw place at r.is_next }
 
 -- As the code has it: the number, if the word ends.
-pub numbered_then : (s : List ℕ) (n : Number) (ends : Bool) (found : Maybe Number) →
-    n.value ≤ most → Stops s n.next → ends ≡ ends_word (drop n.next s) → found ≡ then_some ends n → Numbered n.value n.next (drop n.next s) found
+pub numbered_then : (s : List ℕ) (n : Scanned ℕ) (ends : Bool) (found : Maybe (Scanned ℕ)) →
+    n.token ≤ most → Stops s n.next → ends ≡ ends_word (drop n.next s) → found ≡ then_some ends n → Numbered n.token n.next (drop n.next s) found
 numbered_then s n true found h d e f = rw f (numbered_end s n h (sym e))
-numbered_then s n false found h d e f = rw f (numbered_bad s n.next n.value d (sym e))
+numbered_then s n false found h d e f = rw f (numbered_bad s n.next n.token d (sym e))
 
 -- A run of digits
 
@@ -85,7 +85,7 @@ stops_at s i n = record { stops = λ k. n }
 
 -- Digits that a number above `most` goes on with.
 high_digits : (s : List ℕ) (k from : ℕ) → ((i : ℕ) → from ≤ i → i < from + k → (i < length s) × (is_digit (get_or s i 0) ≡ true)) →
-    (found : Maybe Number) → Numbered most (from + k) (drop (from + k) s) found → Numbered most from (drop from s) found
+    (found : Maybe (Scanned ℕ)) → Numbered most (from + k) (drop (from + k) s) found → Numbered most from (drop from s) found
 high_digits s zero from on found r = let p : from + 0 ≡ from = omega arith in rw p at r
 high_digits s (suc k) from on found r =
     let p : from + suc k ≡ from + 1 + k = omega arith in
@@ -102,7 +102,7 @@ behind_digits s from to b is =
     }
 
 -- Behind a run above `most`, what was found from `most` on.
-pub ran_high : (s : List ℕ) (first from v i : ℕ) (found : Maybe Number) → Ran s first from v i → most < v → Numbered most i (drop i s) found → Numbered first from (drop from s) found
+pub ran_high : (s : List ℕ) (first from v i : ℕ) (found : Maybe (Scanned ℕ)) → Ran s first from v i → most < v → Numbered most i (drop i s) found → Numbered first from (drop from s) found
 ran_high s first from v i found r big q = r.back found (numbered_high most v i (drop i s) found (omega arith) (omega arith) q)
 
 -- A positive number
@@ -132,7 +132,7 @@ module _ (s : List ℕ) (at : ℕ) where
           (λ d. rw (word_on s at h m, z, positive, d, digits)))
 
   -- It is one, and the digits behind it say the rest.
-  pub positive_on : (found : Maybe Number) → at < length s → 49 ≤ get_or s at 0 → get_or s at 0 ≤ 57 → Numbered (get_or s at 0 - 48) (at + 1) (drop (at + 1) s) found → Positive at (drop at s) found
+  pub positive_on : (found : Maybe (Scanned ℕ)) → at < length s → 49 ≤ get_or s at 0 → get_or s at 0 ≤ 57 → Numbered (get_or s at 0 - 48) (at + 1) (drop (at + 1) s) found → Positive at (drop at s) found
   unfolding positive digits
   positive_on found h lo hi r =
       let d = digit_by (get_or s at 0) (omega arith) hi in

@@ -7,7 +7,7 @@ use Rattle.meaning.proofs.Truth.{bool_cases}
 use Rattle.rules.specs.Text.{is_blank}
 use Rattle.rules.proofs.Words.{digit_not_blank}
 use Rattle.text.specs.Scan.{most, blanks, Numbered, Digits, Scans, Positive, Plain, Sign, bytes_at, Bytes, MovedUp, EachUpTo, EachAtMost, said, Short}
-use Rattle.text.specs.declared.Number.{Number}
+use Rattle.text.specs.declared.Scanned.{Scanned}
 use Rattle.text.specs.declared.Token.TheVariants.{Plus, Minus}
 use Rattle.text.proofs.Places.{blank_space, digit_by, blanks_on, blanks-stop, ends_at}
 use Rattle.text.proofs.Bytes.{repeated, first_byte, bytes_of_bits, each_moved, said_moved, said_least, said-most}
@@ -63,7 +63,7 @@ said_nought n p x e z = ap (λ (k : ℕ). said k 0 x) e ∙ ap (λ (v : ℕ). sa
 pub record UnsignedNumber (s : List ℕ) (at size bytes : ℕ) : Type 0 where
   pub positive : 1 ≤ size
   pub plain : Plain (get_or s (at + 1) 0)
-  pub number : Positive (at + 1) (drop (at + 1) s) (Some (record { value = size; next = at + bytes }))
+  pub number : Positive (at + 1) (drop (at + 1) s) (Some (record { token = size; next = at + bytes }))
 
 -- A digit other than 0 is first, and a space is behind the last.
 unsigned_said : (s : List ℕ) (at n k e : ℕ) → Above s (at + 1) k e → 1 ≤ n → n ≤ k → EachUpTo 9 n e → said n 0 e ≤ most → at + 1 + n < length s → 49 ≤ get_or s (at + 1) 0 → get_or s (at + 1) 0 ≤ 57 → get_or
@@ -82,7 +82,7 @@ unsigned_said s at (suc n) (suc k) e a o l g m h lo hi space =
     let d : Digits s (e % 256) (at + 1 + 1) (said n (e % 256) (e / 256)) (at + (suc n + 1)) =
     (rw last at (said-digits s (e % 256) (at + 1 + 1) n k (e % 256) (at + 1 + 1) (e / 256) (digits-start s (e % 256) (at + 1 + 1) (omega (arith, g.0))) (above_rest s (at + 1) k e a g.0) (omega arith) g.1 f (omega arith))) in
     let ends = ends_at s (at + (suc n + 1)) (omega arith) ∙ sym (blank_space (get_or s (at + (suc n + 1)) 0) there) in
-    let found : Number = record { value = said n (e % 256) (e / 256); next = at + (suc n + 1) } in
+    let found : Scanned ℕ = record { token = said n (e % 256) (e / 256); next = at + (suc n + 1) } in
     let behind : Numbered (e % 256) (at + 1 + 1) (drop (at + 1 + 1) s) (Some found) = d.back _ (numbered_end s found d.small ends) in
     rw z record {
       positive = omega (arith, b, said_least n (e % 256) (e / 256));
@@ -111,13 +111,13 @@ module _ (s : List ℕ) (at : ℕ) where
 
     scans_plus : (size bytes : ℕ) → UnsignedNumber s at size bytes → Scans at (drop at s) (Plus size) (at + bytes)
     scans_plus size bytes u =
-        let g = plain-plus s (at + 1) h (record { value = size; next = at + bytes }) u.plain u.number in
+        let g = plain-plus s (at + 1) h (record { token = size; next = at + bytes }) u.plain u.number in
         scans_place s at (at + 1) (Plus size) (at + bytes) (one_blank u.plain.no_blank) g.is_token g.is_next
 
     scans_minus : (size bytes : ℕ) → get_or s (at + 1) 0 ≡ 45 → UnsignedNumber s (at + 1) size bytes → Scans at (drop at s) (Minus size) (at + 1 + bytes)
     unfolding is_blank
     scans_minus size bytes e u =
-        let g = sign_minus s (at + 1) h (record { value = size; next = at + 1 + bytes }) e u.number in
+        let g = sign_minus s (at + 1) h (record { token = size; next = at + 1 + bytes }) e u.number in
         scans_place s at (at + 1) (Minus size) (at + 1 + bytes) (one_blank (rw e)) g.is_token g.is_next
 
     module _ (w n sign d : ℕ) (long : at + 16 ≤ length s) (e : Bytes s (at + 1) 8 w) (some : 1 ≤ n) (few : n ≤ 7) (behind : get_or s (at + 1 + n) 0 ≡ 32) (g : Sign (get_or s (at + 1) 0) sign)

@@ -8,7 +8,6 @@ use Rattle.meaning.proofs.Truth.{bool_cases}
 use Rattle.std.proofs.Math.Option.{Option, none, some}
 use Rattle.rules.specs.Text.{is_blank, positive, signed, same_bytes, token, word}
 use Rattle.text.specs.Scan.{most, blanks, ends_word, sized, Positive, token_of, OneByte, Numeral, Plain, Guessing, Scans}
-use Rattle.text.specs.declared.Number.{Number}
 use Rattle.text.specs.declared.Scanned.{Scanned}
 use Rattle.text.specs.declared.Token.{Token}
 use Rattle.text.specs.declared.Token.TheVariants.{Nought, Plus, Minus, LetterD, Other, Nothing}
@@ -59,7 +58,7 @@ module _ (s : List ℕ) (at : ℕ) (h : at < length s) where
       record { is_token = rw w (sym (byte_other (get_or s at 0) t o _ _)); is_next = tt }
 
   -- As the code has it: the token, if the word ends.
-  pub one_then : (t : Token) → OneByte (get_or s at 0) t → (ends : Bool) (found : Maybe Scanned) →
+  pub one_then : (t : Token) → OneByte (get_or s at 0) t → (ends : Bool) (found : Maybe (Scanned Token)) →
       ends ≡ ends_word (drop (at + 1) s) → found ≡ then_some ends (record { token = t; next = at + 1 }) → Guessing at (drop at s) found
   one_then t o true found e f = rw f (one-ends t o (sym e))
   one_then t o false found e f = rw f (one_other t o (sym e))
@@ -84,10 +83,10 @@ module _ (s : List ℕ) (at : ℕ) (h : at < length s) where
       let q = sized-none (positive (word (drop (at + 1) s))) p.is_size in
       record { is_token = rw w (minus_none (word (drop (at + 1) s)) q); is_next = tt }
 
-  pub sign_minus : (n : Number) → get_or s at 0 ≡ 45 → Positive (at + 1) (drop (at + 1) s) (Some n) → Guessing at (drop at s) (Some (record { token = Minus n.value; next = n.next }))
+  pub sign_minus : (n : Scanned ℕ) → get_or s at 0 ≡ 45 → Positive (at + 1) (drop (at + 1) s) (Some n) → Guessing at (drop at s) (Some (record { token = Minus n.token; next = n.next }))
   sign_minus n e p =
       let w = sign_word e in
-      let m = sized-some n.value (positive (word (drop (at + 1) s))) p.is_size in
+      let m = sized-some n.token (positive (word (drop (at + 1) s))) p.is_size in
       record { is_token = rw w (ap Minus m.2 ∙ sym (minus_some (word (drop (at + 1) s)) m.0 m.1)); is_next = omega (arith, ap length w, p.is_next) }
 
   -- Any other byte.
@@ -110,18 +109,18 @@ module _ (s : List ℕ) (at : ℕ) (h : at < length s) where
       let q = sized-none (positive (word (drop at s))) p.is_size in
       record { is_token = rw w (plus_none (word (drop (at + 1) s)) b (rw w at q)); is_next = tt }
 
-  pub plain-plus : (n : Number) → Plain (get_or s at 0) → Positive at (drop at s) (Some n) → Guessing at (drop at s) (Some (record { token = Plus n.value; next = n.next }))
+  pub plain-plus : (n : Scanned ℕ) → Plain (get_or s at 0) → Positive at (drop at s) (Some n) → Guessing at (drop at s) (Some (record { token = Plus n.token; next = n.next }))
   plain-plus n b p =
       let w = word_on s at h b.no_blank in
-      let m = sized-some n.value (positive (word (drop at s))) p.is_size in
+      let m = sized-some n.token (positive (word (drop at s))) p.is_size in
       record { is_token = rw w (ap Plus m.2 ∙ sym (plus-some (word (drop (at + 1) s)) m.0 b (ap positive (sym w) ∙ m.1))); is_next = p.is_next }
 
   -- As the code has it: the place behind the sign, if there is one.
   module _ (sign : ℕ) (counts : sign ≡ from_bool (eqb (get_or s at 0) 45)) where
-    behind_sign : (found : Maybe Number) → get_or s at 0 ≡ 45 → Positive (at + sign) (drop (at + sign) s) found → Positive (at + 1) (drop (at + 1) s) found
+    behind_sign : (found : Maybe (Scanned ℕ)) → get_or s at 0 ≡ 45 → Positive (at + sign) (drop (at + sign) s) found → Positive (at + 1) (drop (at + 1) s) found
     behind_sign found e p = let one : sign ≡ 1 = (rw e at counts) in rw one at p
 
-    no_sign : (found : Maybe Number) → (get_or s at 0 ≡ 45 → ⊥) → Positive (at + sign) (drop (at + sign) s) found → Positive at (drop at s) found
+    no_sign : (found : Maybe (Scanned ℕ)) → (get_or s at 0 ≡ 45 → ⊥) → Positive (at + sign) (drop (at + sign) s) found → Positive at (drop at s) found
     no_sign found e p = let here : at + sign ≡ at = omega (arith, (rw (ne_eqb (get_or s at 0) 45 e) at counts)) in rw here at p
 
     plain_by : Numeral (get_or s at 0) → (get_or s at 0 ≡ 45 → ⊥) → Plain (get_or s at 0)
@@ -133,10 +132,10 @@ module _ (s : List ℕ) (at : ℕ) (h : at < length s) where
         (λ y. let e = eqb-true (get_or s at 0) 45 y in sign_none e (behind_sign None e p))
         (λ n. let e = eqb-false (get_or s at 0) 45 n in plain_none (plain_by b e) (no_sign None e p))
 
-    pub signed_minus : (n : Number) → get_or s at 0 ≡ 45 → Positive (at + sign) (drop (at + sign) s) (Some n) → Guessing at (drop at s) (Some (record { token = Minus n.value; next = n.next }))
+    pub signed_minus : (n : Scanned ℕ) → get_or s at 0 ≡ 45 → Positive (at + sign) (drop (at + sign) s) (Some n) → Guessing at (drop at s) (Some (record { token = Minus n.token; next = n.next }))
     signed_minus n e p = sign_minus n e (behind_sign (Some n) e p)
 
-    pub signed_plus : (n : Number) → Numeral (get_or s at 0) → (get_or s at 0 ≡ 45 → ⊥) → Positive (at + sign) (drop (at + sign) s) (Some n) → Guessing at (drop at s) (Some (record { token = Plus n.value; next = n.next }))
+    pub signed_plus : (n : Scanned ℕ) → Numeral (get_or s at 0) → (get_or s at 0 ≡ 45 → ⊥) → Positive (at + sign) (drop (at + sign) s) (Some n) → Guessing at (drop at s) (Some (record { token = Plus n.token; next = n.next }))
     signed_plus n b e p = plain-plus n (plain_by b e) (no_sign (Some n) e p)
 
 -- Behind the blanks.
@@ -156,7 +155,7 @@ scans_place s at p t n e is next =
     record { is_token = rw d is; is_next = omega (arith, e, next, ap (λ (k : List ℕ). length (word k)) d) }
 
 -- As the code has it.
-pub scans_or : {Found : Type 0} (s : List ℕ) (at p : ℕ) (o : Maybe Scanned) (r : Scanned) → p ≡ at + blanks (drop at s) → Guessing p (drop p s) o →
+pub scans_or : {Found : Type 0} (s : List ℕ) (at p : ℕ) (o : Maybe (Scanned Token)) (r : Scanned Token) → p ≡ at + blanks (drop at s) → Guessing p (drop p s) o →
     MatchOption o Found (λ f. r ≡ f) → (Found → (r.token ≡ Other) × (r.next ≡ p + length (word (drop p s)))) → Scans at (drop at s) r.token r.next
 scans_or s at p None r e g m end = let t = end m in scans_place s at p r.token r.next e (t.0 ∙ sym g.is_token) t.1
 scans_or s at p (Some f) r e g m end = rw m (scans_place s at p f.token f.next e g.is_token g.is_next)

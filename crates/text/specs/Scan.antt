@@ -4,7 +4,6 @@ use Rattle.std.specs.Prelude.{Some, None, IfSome, MatchOption}
 use Rattle.std.specs.Prelude.{Option as Maybe}
 use Rattle.std.proofs.Math.Option.{Option, none, some}
 use Rattle.rules.specs.Text.{is_blank, is_digit, digits, positive, Token, nought, plus, minus, letter_d, other, token, word}
-use Rattle.text.specs.declared.Number.{Number}
 use Rattle.text.specs.declared.Scanned.{Scanned as Place}
 use Rattle.text.specs.declared.Token.{Token as Scanned}
 use Rattle.text.specs.declared.Token.TheVariants.{Nought, Plus, Minus, LetterD, Other, Nothing}
@@ -31,9 +30,9 @@ sized none = none
 sized (some n) = some (min n most)
 
 -- The size of a number that was found, if one was.
-abbrev pub size_of : Maybe Number → Option ℕ
+abbrev pub size_of : Maybe (Place ℕ) → Option ℕ
 size_of None = none
-size_of (Some n) = some n.value
+size_of (Some n) = some n.token
 
 -- The bytes of s from `from` up to the place `to` pass a test, and the one that stands there, if there is one, does not.
 pub record Behind (tests : ℕ → Bool → Type 0) (s : List ℕ) (from to : ℕ) : Type 0 where
@@ -47,20 +46,20 @@ pub record Stops (s : List ℕ) (i : ℕ) : Type 0 where
   pub stops : i < length s → is_digit (slice_index s i) ≡ false
 
 -- The number whose digits say v up to the place `at`, where the text goes on with s, if it is one; and then the place behind it.
-pub record Numbered (v at : ℕ) (s : List ℕ) (found : Maybe Number) : Type 0 where
+pub record Numbered (v at : ℕ) (s : List ℕ) (found : Maybe (Place ℕ)) : Type 0 where
   pub is_size : size_of found ≡ sized (digits v (word s))
   pub is_next : IfSome found (λ n. n.next ≡ at + length (word s))
 
 -- From `from`, where the digits before it said `first`, a run of digits goes up to i and says v: what is found from there on is
 -- what is found from the start on. It ends at the last digit, unless v is above `most`.
 pub record Ran (s : List ℕ) (first from v i : ℕ) : Type 0 where
-  pub back : (found : Maybe Number) → Numbered v i (drop i s) found → Numbered first from (drop from s) found
+  pub back : (found : Maybe (Place ℕ)) → Numbered v i (drop i s) found → Numbered first from (drop from s) found
   pub stops : v ≤ most → Stops s i
 
 -- Where a run stands that has not gone above `most`: what is found from i on with v is what is found from the start.
 pub record Digits (s : List ℕ) (first from v i : ℕ) : Type 0 where
   pub small : v ≤ most
-  pub back : (found : Maybe Number) → Numbered v i (drop i s) found → Numbered first from (drop from s) found
+  pub back : (found : Maybe (Place ℕ)) → Numbered v i (drop i s) found → Numbered first from (drop from s) found
 
 -- A token as this crate gives it.
 abbrev pub capped : Token → Scanned
@@ -77,12 +76,12 @@ token_of [] = Nothing
 token_of (b ∷ w) = capped (token (b ∷ w))
 
 -- The word that the text s begins with, at the place `at`, as a positive number, if it is one; and then the place behind it.
-pub record Positive (at : ℕ) (s : List ℕ) (found : Maybe Number) : Type 0 where
+pub record Positive (at : ℕ) (s : List ℕ) (found : Maybe (Place ℕ)) : Type 0 where
   pub is_size : size_of found ≡ sized (positive (word s))
   pub is_next : IfSome found (λ n. n.next ≡ at + length (word s))
 
 -- The same as a token, unless it is another word; and then the place behind it.
-pub record Guessing (at : ℕ) (s : List ℕ) (found : Maybe Place) : Type 0 where
+pub record Guessing (at : ℕ) (s : List ℕ) (found : Maybe (Place Scanned)) : Type 0 where
   pub is_token : MatchOption found (token_of (word s) ≡ Other) (λ f. f.token ≡ token_of (word s))
   pub is_next : IfSome found (λ f. f.next ≡ at + length (word s))
 

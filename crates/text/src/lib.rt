@@ -5,11 +5,14 @@
 //
 // Every loop here moves one byte on with each turn, so the turns are the bytes passed: `next - at`, and for a word that is no
 // number up to twice that, since its end is looked for from its beginning. `short_at` and what it calls have no loop.
+//
+// A place travels beside the text, and no rest of it: `Scans at (drop at s)` and `Short`, which may not change, speak of places, and
+// callers keep places, add to them and compare them.
 #![tactic(auto)]
 
 ghost use Rattle.std.specs.Prelude.{◌≡◌, ◌+◌, ◌*◌, ◌<◌, ◌≤◌, false, length, drop, slice_index, IfSome};
 ghost use Rattle.rules.specs.Text.{is_blank, word};
-ghost use Rattle.text.specs.Scan.{most, blanks, ends_word, Behind, Stops, Numbered, Ran, Positive, OneByte, Numeral, Guessing, Scans, Sign, Bytes, MovedUp, EachAtMost, Tells, said, Short};
+ghost use Rattle.text.specs.Scan.{most, blanks, ends_word, Behind, Stops, Numbered, Ran, Positive, OneByte, Numeral, Guessing, Scans, Bytes, MovedUp, EachAtMost, Tells, said, Short};
 
 // A number stays at this size if it is larger.
 const MOST: u64 = 1_000_000_000_000_000_000;
@@ -25,17 +28,10 @@ pub enum Token {
     Nothing,
 }
 
-// A token and the place behind it.
+// A token, or the value of a number, and the place behind it.
 #[derive(Clone, Copy)]
-pub struct Scanned {
-    pub token: Token,
-    pub next: usize,
-}
-
-// A number and the place behind its digits.
-#[derive(Clone, Copy)]
-pub struct Number {
-    pub value: u64,
+pub struct Scanned<T = Token> {
+    pub token: T,
     pub next: usize,
 }
 
@@ -88,27 +84,27 @@ fn ends_word(s: &[u8], at: usize) -> bool
 }
 
 // A number whose digits end at its place: it is one only if the word ends there, too.
-fn finish(s: &[u8], n: Number) -> Option<Number>
-    requires le_most { n.value ≤ most }
+fn finish(s: &[u8], n: Scanned<u64>) -> Option<Scanned<u64>>
+    requires le_most { n.token ≤ most }
     requires stops { Stops s.now n.next }
-    ensures { Numbered n.value n.next (drop n.next s.now) result }
+    ensures { Numbered n.token n.next (drop n.next s.now) result }
 {
     ends_word(s, n.next).then_some(n)
 }
 
 // A number that is above `MOST` already, and goes on at `from`.
-fn long(s: &[u8], from: usize) -> Option<Number>
+fn long(s: &[u8], from: usize) -> Option<Scanned<u64>>
     ensures { Numbered most from (drop from s.now) result }
 {
     let next = skip_digits(s, from);
-    finish(s, Number { value: MOST, next })
+    finish(s, Scanned { token: MOST, next })
 }
 
 // The digits from `from` on, behind a number that is `first` so far: up to the last one, or until it is above `MOST`. Nothing
 // else is done here, so that the loop keeps all it needs in registers.
-fn run(s: &[u8], from: usize, first: u64) -> Number
+fn run(s: &[u8], from: usize, first: u64) -> Scanned<u64>
     requires { first ≤ most }
-    ensures { Ran s.now first from result.value result.next }
+    ensures { Ran s.now first from result.token result.next }
 {
     let mut v = first;
     let mut i = from;
@@ -119,16 +115,16 @@ fn run(s: &[u8], from: usize, first: u64) -> Number
             break;
         }
     }
-    Number { value: v, next: i }
+    Scanned { token: v, next: i }
 }
 
 // A number that is `first` so far, and goes on at `from`.
-fn digits_from(s: &[u8], from: usize, first: u64) -> Option<Number>
+fn digits_from(s: &[u8], from: usize, first: u64) -> Option<Scanned<u64>>
     requires { first ≤ most }
     ensures { Numbered first from (drop from s.now) result }
 {
     let n = run(s, from, first);
-    if n.value > MOST {
+    if n.token > MOST {
         long(s, n.next)
     } else {
         finish(s, n)
@@ -136,7 +132,7 @@ fn digits_from(s: &[u8], from: usize, first: u64) -> Option<Number>
 }
 
 // The word at `at` as a positive number: digits without a leading zero.
-fn positive(s: &[u8], at: usize) -> Option<Number>
+fn positive(s: &[u8], at: usize) -> Option<Scanned<u64>>
     ensures { Positive at (drop at s.now) result }
 {
     let b = *s.get(at)?;
@@ -163,9 +159,9 @@ fn signed(s: &[u8], at: usize) -> Option<Scanned>
     let negative = s[at] == b'-';
     let n = positive(s, at + usize::from(negative))?;
     let token = if negative {
-        Token::Minus(n.value)
+        Token::Minus(n.token)
     } else {
-        Token::Plus(n.value)
+        Token::Plus(n.token)
     };
     Some(Scanned {
         token,
