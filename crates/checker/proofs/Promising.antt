@@ -1,5 +1,5 @@
 -- The promises of the front door, from what its parts come to. Assumes nothing.
-use Rattle.std.proofs.Common.{ℕ, ◌+◌, ◌*◌, ◌%◌, ◌<◌, ◌≤◌, ◌≡◌, refl, sym, ap, ◌∙◌, inl, inr, ⊎_elim, List, arith, length, take, length-take-le}
+use Rattle.std.proofs.Common.{ℕ, ◌+◌, ◌*◌, ◌<◌, ◌≤◌, ◌≡◌, refl, sym, ap, ◌∙◌, inl, inr, ⊎_elim, List, arith, length, take, length-take-le}
 use Rattle.rules.specs.Limits.{max_variable}
 use Rattle.rules.specs.Text.{Token, tokens}
 use Rattle.rules.specs.Answers.{start}
@@ -110,13 +110,6 @@ module _ (f p heads lits hints marks tape : List ℕ) (e : Enough f p heads lits
       (λ y. ⊎_elim (λ l. omega (arith, e.in_lits)) (λ h. omega (arith, e.in_heads)) y)
       (λ y. ⊎_elim (λ a. no_mark_never y a) (λ b. short_never f p heads lits hints marks tape e y b) y.short)
       x
-
--- The marks that are used.
-pub cells-long : (marks : List ℕ) (cells : ℕ) → Cells (length marks) cells → cells ≡ length (take cells marks)
-cells-long marks cells c = sym (length-take-le cells marks c.within)
-
-pub cells_fit : (marks : List ℕ) (cells : ℕ) → Cells (length marks) cells → (length (take cells marks) % 2 ≡ 0) × (length (take cells marks) ≤ 33_554_432)
-cells_fit marks cells c = rw (length-take-le cells marks c.within) (c.even, c.few)
 
 -- All promises.
 pub promises : (f p heads lits hints marks tape : List ℕ) (cells : ℕ) → Cells (length marks) cells → (a : Answer) (turns : ℕ)

@@ -1,6 +1,6 @@
 -- The formula in the store: the variables of its literals, and the state that the run starts from. Assumes nothing.
-use Rattle.std.proofs.Common.{ℕ, zero, suc, ◌+◌, ◌-◌, ◌*◌, ◌/◌, ◌<◌, ◌≤◌, max, ◌≡◌, eqb, ltb, Bool, true, false, not, List, [], ◌∷◌, ◌++◌, map, length, get_or, take}
-use Rattle.std.proofs.Common.{refl, sym, ap, ◌∙◌, inl, inr, ⊎_elim, arith, get_or-take, length-take-le, get_or-drop, ltb-true, ltb-false}
+use Rattle.std.proofs.Common.{ℕ, zero, suc, ◌+◌, ◌-◌, ◌/◌, ◌<◌, ◌≤◌, max, ◌≡◌, Bool, true, false, not, List, [], ◌∷◌, ◌++◌, map, length, get_or, take}
+use Rattle.std.proofs.Common.{refl, sym, ap, ◌∙◌, inl, inr, ⊎_elim, arith, get_or-take, length-take-le, get_or-drop}
 use borrow.Author.Tests.{not-true, not-false}
 use Rattle.std.proofs.Math.Seq.{slice, length-slice}
 use Rattle.meaning.specs.Meaning.{Clause, Formula, Within, AllWithin}
@@ -73,14 +73,6 @@ greatest_stands (x ∷ y ∷ xs) h =
     (λ lt. record { place = suc s.place; inside = omega (arith, s.inside); is = s.is ∙ (let z : greatest (y ∷ xs) ≡ max x (greatest (y ∷ xs)) = omega arith in z) })
     (λ ge. record { place = 0; inside = omega arith; is = (let z : x ≡ max x (greatest (y ∷ xs)) = omega arith in z) })
     (cut x (greatest (y ∷ xs)))
-
--- Whether there are marks.
-pub marks_none : (marks used top : ℕ) → used ≡ 0 → HasMarks marks used top (eqb used 0)
-marks_none marks used top e = rw e (record { case = inl refl })
-
-pub marks_some : (marks used top : ℕ) → (used ≡ 0 → ⊥) → (r : Bool) → r ≡ ltb (2 * top + 1) marks → HasMarks marks used top r
-marks_some marks used top n true e = record { case = inr (ltb-true (2 * top + 1) marks (sym e)) }
-marks_some marks used top n false e = record { case = (⊎_elim (λ z. absurd (n (omega arith))) (λ g. g) (cut used 1), ltb-false (2 * top + 1) marks (sym e)) }
 
 -- By the answer.
 pub has_no : (marks used top : ℕ) (r : Bool) → HasMarks marks used top r → not r ≡ true → HasMarks marks used top false

@@ -17,7 +17,7 @@ use Rattle.clauses.proofs.Parts.{part_slice}
 use Rattle.deletion.specs.Deleting.{state_of}
 use Rattle.deletion.proofs.Leavings.{dead_append}
 use Rattle.addition.specs.Verdicts.{Verdict, SaysCase, ground_of}
-use Rattle.addition.specs.Addition.{Addable as Judgeable, clause_in, all_turns, Judges}
+use Rattle.addition.specs.Addition.{Addable as Judgeable, clause_in, Judges}
 use Rattle.addition.specs.declared.Failure.TheVariants.{Refused as IsRefused, TooShort as IsTooShort}
 use Rattle.stepping.specs.Stepping.{state_at, addition, Outcome, AcceptCase, JudgedCase, Accepts, Addable, Goes, AddCase, Adds}
 use Rattle.stepping.specs.declared.Between.{Between}
@@ -151,6 +151,3 @@ module _ (heads lits hints marks : List ℕ) (b : Between) (id end many : ℕ) (
 
     pub addition_adds : (after : List ℕ) → after ≡ marks' → Adds heads lits hints marks tape b id end many heads' after o
     addition_adds after e = rw e (record { case = by_verdict v says y.case })
-
-    pub addition_turns : turns ≤ all_turns b.n end many
-    addition_turns = omega (arith, rw (own-is, front_long, own_long, hints-long) at j.bounded, a.forward)

@@ -1,15 +1,14 @@
 -- Deletions, and room that is given back. Assumes nothing.
 use Rattle.std.specs.Prelude.{Result, Ok, Err}
-use Rattle.std.proofs.Common.{ℕ, ◌+◌, ◌*◌, ◌/◌, ◌^◌, ◌<◌, ◌≤◌, ◌≡◌, refl, sym, ap, ◌∙◌, List, map, arith, length}
+use Rattle.std.proofs.Common.{ℕ, ◌+◌, ◌*◌, ◌^◌, ◌<◌, ◌≤◌, ◌≡◌, refl, sym, ap, ◌∙◌, List, map, arith, length}
 use Rattle.rules.specs.Judging.{Live, goes_on, judge_deletion, judge}
 use Rattle.clauses.specs.Codes.{half}
 use Rattle.clauses.specs.Counting.{Counts}
 use Rattle.clauses.specs.Store.{live_of, Holds}
 use Rattle.clauses.specs.Moving.{AllMoved}
 use Rattle.clauses.specs.declared.Compacted.{Compacted}
-use Rattle.deletion.specs.Deleting.{state_of, Headed, AllGone, OneMissing, Deletes as DeletesAll}
+use Rattle.deletion.specs.Deleting.{state_of, AllGone, OneMissing, Deletes as DeletesAll}
 use Rattle.deletion.proofs.Leavings.{none_dead, dead_below}
-use Rattle.deletion.proofs.Removing.{store_headed}
 use Rattle.stepping.specs.Stepping.{state_at, deletion, Counted, Tight, GivesBack, Deletes}
 use Rattle.stepping.specs.declared.Between.{Between}
 use Rattle.stepping.specs.declared.Progress.TheVariants.{On}
@@ -19,10 +18,6 @@ use Rattle.stepping.specs.declared.Refusal.TheVariants.{Deletion}
 -- Giving room back
 
 -- Enough of the store belongs to live clauses.
-pub back_same : (heads lits : List ℕ) (b : Between) → Counted heads lits b → b.dead ≤ (b.n + b.used) / 2 → GivesBack heads lits b heads lits b
-back_same heads lits b c h =
-    record { tight = record { held = c; half = omega arith }; same = refl; last = refl; few = omega arith; below = λ m f. f }
-
 -- The deleted clauses went.
 pub back_moved : (heads lits : List ℕ) (b : Between) → Counted heads lits b → (heads' lits' : List ℕ) (r : Compacted) → AllMoved heads lits b.n heads' lits' r
     → GivesBack heads lits b heads' lits' (record { n = r.n; used = r.used; last = b.last; dead = 0 })
@@ -44,10 +39,6 @@ back_turns heads lits b c heads' lits' r m noted turns e t =
     omega (arith, t.at_most, m.counted, m.fewer, m.shorter, c.store.ends)
 
 -- Deletions
-
-pub tight_headed : (heads lits : List ℕ) (b : Between) → Tight heads lits b → length lits * 4 < 2 ^ 63 → Headed heads b.n
-tight_headed heads lits b t h = store_headed heads lits b.n b.used b.last t.held.store (omega (arith, t.held.store.fits))
-
 module _ (heads lits ids : List ℕ) (b : Between) (t : Tight heads lits b) where
   held : Holds heads lits b.n b.used b.last (live_of heads lits b.n)
   held = record { store = t.held.store; same = refl }

@@ -1,5 +1,5 @@
 -- Taking one step: what was read is judged, and what that comes to for the run. Assumes nothing.
-use Rattle.std.specs.Prelude.{Option, Some, None, Result, Ok, Err}
+use Rattle.std.specs.Prelude.{Option, Some, Result, Ok, Err}
 use Rattle.std.proofs.Common.{ℕ, ◌+◌, ◌-◌, ◌*◌, ◌^◌, ◌<◌, ◌≤◌, ◌≡◌, refl, sym, ap, ◌∙◌, inl, inr, ⊎_elim, List, map, arith, add-mul, mul_comm, mul-le-mul, length, get_or, take, drop, length-drop, length-take-le}
 use Rattle.std.proofs.Math.Option.{some}
 use Rattle.rules.specs.Text.{tokens}
@@ -12,7 +12,7 @@ use Rattle.clauses.proofs.Holding.{holds_front}
 use Rattle.deletion.specs.Deleting.{state_of}
 use Rattle.formula.specs.Body.{Placed}
 use Rattle.formula.proofs.Fillings.{placed_front, placed_length, placed_slice, placed_below}
-use Rattle.steps.specs.Reading.{StepAdded, StepDeleted, StepNone, StepStopped, StepShort, FaultCase, ReadsStep}
+use Rattle.steps.specs.Reading.{StepAdded, StepDeleted, StepStopped, StepShort, FaultCase, ReadsStep}
 use Rattle.steps.specs.declared.Step.{Step as ReadStep}
 use Rattle.steps.specs.declared.Step.TheVariants.{Addition, Deletion}
 use Rattle.steps.specs.declared.Read.{Read}
@@ -105,10 +105,6 @@ module _ (proof : List ℕ) (at : ℕ) (b : Between) (heads lits hints marks tap
       (step : Option ReadStep) (next : ℕ) (f : r ≡ Ok (record { step = step; next = next })) (id end many : ℕ) (g : step ≡ Some (Addition id end many)) where
     a : StepAdded (length marks) proof at b.used lits hints lits' hints' id end many next
     a = rw (f, g) at rd.case
-
-    pub addition_later : at < next
-    addition_later = a.later
-
     known_all : (i : ℕ) → i < end → get_or lits' i 0 < length marks
     known_all =
         placed_below lits b.used a.new lits' end k.tight.held.store.fits a.placed (length marks) a.below k.known
@@ -141,10 +137,6 @@ module _ (proof : List ℕ) (at : ℕ) (b : Between) (heads lits hints marks tap
 
     codes_are : (end - b.used) + many ≡ length a.new + length a.told
     codes_are = omega (arith, a.placed.count, a.noted.count)
-
-    pub addition_fits : length proof < 2 ^ 63 → (end - b.used) + many < 2 ^ 64
-    addition_fits h = omega (arith, codes_are, a.turns, tokens_few (drop at proof), length-drop at proof)
-
     module _ (heads' marks' : List ℕ) (next' turns : ℕ) (en : next' ≡ next) (s : Spent (next - at) ((end - b.used) + many) (all_turns b.n end many) turns)
         (short : length proof < 2 ^ 63) where
       split : length (tokens (drop next proof)) + ((end - b.used) + many + 3) ≡ length (tokens (drop at proof))
@@ -210,13 +202,6 @@ module _ (proof : List ℕ) (at : ℕ) (b : Between) (heads lits hints marks tap
       (step : Option ReadStep) (next : ℕ) (f : r ≡ Ok (record { step = step; next = next })) (many : ℕ) (g : step ≡ Some (Deletion many)) where
     d : StepDeleted proof at lits hints lits' hints' many next
     d = rw (f, g) at rd.case
-
-    pub deletion_later : at < next
-    deletion_later = d.later
-
-    pub deletion_tight : Tight heads lits' b
-    deletion_tight = rw d.same k.tight
-
     pub deletion_few : many ≤ length hints'
     deletion_few = rw (placed_length hints 0 d.told hints' many (omega arith) d.noted) d.noted.room
 
@@ -281,16 +266,6 @@ module _ (proof : List ℕ) (at : ℕ) (b : Between) (heads lits hints marks tap
   -- No step
 
   module _ (lits' hints' : List ℕ) (r : Result Read Stopped) (rd : ReadsStep (length marks) proof at b.used lits hints lits' hints' r) where
-    pub nothing_taken : (step : Option ReadStep) (next : ℕ) → r ≡ Ok (record { step = step; next = next }) → step ≡ None → (heads' lits'' marks' : List ℕ) (o : Outcome) (place turns : ℕ) → o ≡ Ok Nothing
-        → Spent (length proof - at) 0 (length proof - at) turns → TakesStep proof at b heads lits hints marks tape heads' lits'' marks' o place turns
-    nothing_taken step next f g heads' lits'' marks' o place turns eo s =
-        let x : StepNone proof at lits hints lits' hints' next = rw (f, g) at rd.case in
-        rw eo
-        (record {
-          case = (x.is, stopped_last proof at b 0 turns (omega arith) s);
-          counted = spent_one (length proof - at) 0 (length proof - at) turns s;
-        })
-
     module _ (stop : Stopped) (e : r ≡ Err stop) where
       abbrev Stops : Type 0
       Stops = StepStopped proof at b.used lits hints lits' hints' stop.at stop.end stop.many
@@ -304,16 +279,8 @@ module _ (proof : List ℕ) (at : ℕ) (b : Between) (heads lits hints marks tap
 
       stopped : Stops
       stopped = stopped-by stop.fault case-at
-
-      pub stopped_forward : b.used ≤ stop.end
-      stopped_forward = omega (arith, stopped.placed.count)
-
       stopped_codes : (stop.end - b.used) + stop.many ≤ length (tokens (drop at proof))
       stopped_codes = omega (arith, stopped.placed.count, stopped.noted.count, stopped.at_least)
-
-      pub stopped_fits : length proof < 2 ^ 63 → (stop.end - b.used) + stop.many < 2 ^ 64
-      stopped_fits h = omega (arith, stopped_codes, tokens_few (drop at proof), length-drop at proof)
-
       short_lacks : StepShort (length marks) proof at b.used lits hints lits' hints' stop.at stop.end stop.many
           → Lacks heads lits hints tape (length marks) b.n b.used (tokens (drop at proof))
       short_lacks x = record {

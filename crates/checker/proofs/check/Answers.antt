@@ -1,10 +1,7 @@
 -- `check` meets its contract. Assumes nothing.
 use Rattle.std.proofs.Common.{rules}
-use Rattle.checker.proofs.Promising.{cells_fit, promises}
+use Rattle.checker.proofs.Promising.{promises}
 use Rattle.checker.proofs.check.Goals as goal
-
-pub check_marked-requires : goal.check_marked-requires
-check_marked-requires c = cells_fit _ _ c.cells-used.ensures
 
 pub returns : goal.returns
 returns c =

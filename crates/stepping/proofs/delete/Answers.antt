@@ -1,10 +1,7 @@
 -- `delete` meets its contract: all ids were live, and room is given back; or one was not. Assumes nothing.
 use Rattle.std.proofs.Common.{arith}
-use Rattle.stepping.proofs.Lessening.{tight_headed, more_fits, deleted_more, deleted_on, deleted_turns, deleted_not, deleted_not_turns}
+use Rattle.stepping.proofs.Lessening.{more_fits, deleted_more, deleted_on, deleted_turns, deleted_not, deleted_not_turns}
 use Rattle.stepping.proofs.delete.Goals as goal
-
-pub delete_all-deleted-requires : goal.delete_all-deleted-requires
-delete_all-deleted-requires c = tight_headed _ _ _ c.requires c.well_formed.1.0.1
 
 pub returns-in-Err : goal.returns-in-Err
 returns-in-Err c =

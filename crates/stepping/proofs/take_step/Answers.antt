@@ -1,47 +1,14 @@
 -- `take_step` meets its contract: the step is read, and by what was read it is judged. Assumes nothing.
 use Rattle.std.proofs.Common.{arith, ap, Some, ◌∙◌}
 use Rattle.stepping.proofs.Spending.{spent_most}
-use Rattle.stepping.proofs.Taking.{addition_later, addition_fits, addition_addable, addition-taken, deletion_later, deletion_tight, deletion-taken}
-use Rattle.stepping.proofs.Taking.{nothing_taken, stopped_forward, stopped_fits, stopped_taken}
+use Rattle.stepping.proofs.Taking.{addition_addable, addition-taken, deletion-taken}
+use Rattle.stepping.proofs.Taking.{stopped_taken}
 use Rattle.stepping.proofs.take_step.Goals as goal
-
-pub overflow_sub-codes : goal.overflow_sub-codes
-overflow_sub-codes c =
-    (addition_addable _ _ _ _ _ _ _ c.args.work.now.tape.now c.requires.keeps _ _ _ c.read_step.ensures _ _ c.in-Ok.is _ _ _
-    (c.in-Some-Addition.is ∙ ap Some (rw c.in-Some-Addition.is at c.in-Some-Addition.field-0-is))).forward
-
-pub overflow_add-codes : goal.overflow_add-codes
-overflow_add-codes c =
-    record {
-      fits = addition_fits _ _ _ _ _ _ _ c.args.work.now.tape.now c.requires.keeps _ _ _ c.read_step.ensures _ _ c.in-Ok.is _ _ _
-          (c.in-Some-Addition.is ∙ ap Some (rw c.in-Some-Addition.is at c.in-Some-Addition.field-0-is)) (omega (arith, c.well_formed.0.1));
-    }
-
-pub overflow_sub-next : goal.overflow_sub-next
-overflow_sub-next c =
-    omega (
-      arith,
-      addition_later _ _ _ _ _ _ _ c.args.work.now.tape.now c.requires.keeps _ _ _ c.read_step.ensures _ _ c.in-Ok.is _ _ _
-          (c.in-Some-Addition.is ∙ ap Some (rw c.in-Some-Addition.is at c.in-Some-Addition.field-0-is)),
-    )
 
 pub add-requires : goal.add-requires
 add-requires c =
     addition_addable _ _ _ _ _ _ _ c.args.work.now.tape.now c.requires.keeps _ _ _ c.read_step.ensures _ _ c.in-Ok.is _ _ _
     (c.in-Some-Addition.is ∙ ap Some (rw c.in-Some-Addition.is at c.in-Some-Addition.field-0-is))
-
-pub overflow_sub-next-in-Some-Deletion : goal.overflow_sub-next-in-Some-Deletion
-overflow_sub-next-in-Some-Deletion c =
-    omega (
-      arith,
-      deletion_later _ _ _ _ _ _ _ c.args.work.now.tape.now c.requires.keeps _ _ _ c.read_step.ensures _ _ c.in-Ok.is _
-          (c.in-Some-Deletion.is ∙ ap Some (rw c.in-Some-Deletion.is at c.in-Some-Deletion.field-0-is)),
-    )
-
-pub delete-deleted-requires : goal.delete-deleted-requires
-delete-deleted-requires c =
-    deletion_tight _ _ _ _ _ _ _ c.args.work.now.tape.now c.requires.keeps _ _ _ c.read_step.ensures _ _ c.in-Ok.is _
-    (c.in-Some-Deletion.is ∙ ap Some (rw c.in-Some-Deletion.is at c.in-Some-Deletion.field-0-is))
 
 pub returns-in-Some-Addition-clause-step : goal.returns-in-Some-Addition-clause-step
 returns-in-Some-Addition-clause-step c =
@@ -57,20 +24,6 @@ returns-in-Some-Deletion-clause-step c =
     (deletion-taken _ _ _ _ _ _ _ _ c.requires.keeps _ _ _ c.read_step.ensures _ _ c.in-Ok.is _
     (c.in-Some-Deletion.is ∙ ap Some (rw c.in-Some-Deletion.is at c.in-Some-Deletion.field-0-is)) _ _ _ _ read.next
     (spent_most _ _ _ _ _ c.delete-deleted.ensures.turns read.turns) (omega (arith, c.well_formed.0.1)) _ c.delete-deleted.ensures.judged)
-
-pub returns-in-None-clause-step : goal.returns-in-None-clause-step
-returns-in-None-clause-step c =
-    nothing_taken _ _ _ _ _ _ _ _ c.requires.keeps _ _ _ c.read_step.ensures _ _ c.in-Ok.is c.in-None.is _ _ _ _ _ _ c.unread.ensures.outcome c.unread.ensures.turns
-
-pub overflow_sub-codes-in-Err : goal.overflow_sub-codes-in-Err
-overflow_sub-codes-in-Err c =
-    stopped_forward _ _ _ _ _ _ _ c.args.work.now.tape.now c.requires.keeps _ _ _ c.read_step.ensures _ c.in-Err.is
-
-pub overflow_add-codes-in-Err : goal.overflow_add-codes-in-Err
-overflow_add-codes-in-Err c =
-    record {
-      fits = stopped_fits _ _ _ _ _ _ _ c.args.work.now.tape.now c.requires.keeps _ _ _ c.read_step.ensures _ c.in-Err.is (omega (arith, c.well_formed.0.1));
-    }
 
 pub returns-in-Err-clause-step : goal.returns-in-Err-clause-step
 returns-in-Err-clause-step c =
