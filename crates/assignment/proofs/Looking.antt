@@ -287,6 +287,15 @@ module _ (clause marks : List ℕ) (others last i : ℕ) (l : Looking clause mar
       looking_again clause marks (others + first) middle (i + 1) one known none (get_or clause i 0) (get_or marks (get_or clause i 0) 0) last m second last' (rw q at k') (rw q at m'))
       (cut (i + 1) (length clause))))
 
+-- Every literal was read, up to some place behind the last.
+pub record Looked (clause marks : List ℕ) (others last : ℕ) : Type 0 where
+  pub place : ℕ
+  pub past : length clause ≤ place
+  pub looking : Looking clause marks others last place
+
+pub looked : (clause marks : List ℕ) (others last i others' last' : ℕ) → others' ≡ others → last' ≡ last → length clause ≤ i → Looking clause marks others last i → Looked clause marks others' last'
+looked clause marks others last i others' last' e f past l = rw (e, f) record { place = i; past = past; looking = l }
+
 -- One literal alone
 
 module _ (x : ℕ) (marks : List ℕ) (p : Paired marks) (h : x < length marks) (back : ℕ) (e : back ≡ opposite_code x) where

@@ -119,8 +119,7 @@ pub fn look_at(clause: &[u32], marks: &[u8]) -> Look
 {
     let mut others: usize = 0;
     let mut last: u32 = u32::MAX;
-    let mut i = 0;
-    while i < clause.len() {
+    for i in (0..clause.len()).step_by(2) {
         let x = clause[i];
         let y = clause[behind(i, clause.len())];
         let mark = marks[x as usize];
@@ -130,7 +129,6 @@ pub fn look_at(clause: &[u32], marks: &[u8]) -> Look
         let second = counted(middle, y, other);
         others += first + second;
         last = latest(middle, y, other);
-        i += 2;
     }
     match others {
         0 => Look::AllFalse,

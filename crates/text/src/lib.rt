@@ -272,7 +272,7 @@ fn short(s: &[u8], at: usize) -> Option<u64>
 
 // The first token from `at` on, if it is a number of up to seven bytes with a space before and behind it, as nearly all are:
 // 16 times its code, and how many bytes it takes with the space before it. 0 if it is not, or if the text is about to end.
-// It is a single number, since only that comes back in a register: `Option<Scanned>` does not.
+// It is a single number, and no `Option`: `Short`, which may not change, speaks of one.
 pub fn short_at(s: &[u8], at: usize) -> u64
     requires { at ≤ length s.now }
     ensures { Short at (drop at s.now) result }

@@ -1,11 +1,7 @@
 -- `assignment::look_at` meets its contract. The loop's invariant: the two numbers that are kept of the literals before i, and the
--- literals from i on, say what the whole clause says (`Looking`). The measure is what is left of the clause. Assumes nothing.
-use Rattle.std.proofs.Common.{◌-◌, length}
+-- literals from i on, say what the whole clause says (`Looking`). Assumes nothing.
 use Rattle.assignment.proofs.Looking.{Looking}
 use Rattle.assignment.proofs.look_at.Given as goal
 
 abbrev pub invariant-loop-i : goal.invariant-loop-i
 invariant-loop-i l = Looking l.clause l.marks l.others l.last l.i
-
-abbrev pub decreases-loop-i : goal.decreases-loop-i
-decreases-loop-i l = length l.clause - l.i
