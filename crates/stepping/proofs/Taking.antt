@@ -105,6 +105,7 @@ module _ (proof : List ℕ) (at : ℕ) (b : Between) (heads lits hints marks tap
       (step : Option ReadStep) (next : ℕ) (f : r ≡ Ok (record { step = step; next = next })) (id end many : ℕ) (g : step ≡ Some (Addition id end many)) where
     a : StepAdded (length marks) proof at b.used lits hints lits' hints' id end many next
     a = rw (f, g) at rd.case
+
     known_all : (i : ℕ) → i < end → get_or lits' i 0 < length marks
     known_all =
         placed_below lits b.used a.new lits' end k.tight.held.store.fits a.placed (length marks) a.below k.known
@@ -137,6 +138,7 @@ module _ (proof : List ℕ) (at : ℕ) (b : Between) (heads lits hints marks tap
 
     codes_are : (end - b.used) + many ≡ length a.new + length a.told
     codes_are = omega (arith, a.placed.count, a.noted.count)
+
     module _ (heads' marks' : List ℕ) (next' turns : ℕ) (en : next' ≡ next) (s : Spent (next - at) ((end - b.used) + many) (all_turns b.n end many) turns)
         (short : length proof < 2 ^ 63) where
       split : length (tokens (drop next proof)) + ((end - b.used) + many + 3) ≡ length (tokens (drop at proof))
@@ -202,6 +204,7 @@ module _ (proof : List ℕ) (at : ℕ) (b : Between) (heads lits hints marks tap
       (step : Option ReadStep) (next : ℕ) (f : r ≡ Ok (record { step = step; next = next })) (many : ℕ) (g : step ≡ Some (Deletion many)) where
     d : StepDeleted proof at lits hints lits' hints' many next
     d = rw (f, g) at rd.case
+
     pub deletion_few : many ≤ length hints'
     deletion_few = rw (placed_length hints 0 d.told hints' many (omega arith) d.noted) d.noted.room
 
@@ -279,8 +282,10 @@ module _ (proof : List ℕ) (at : ℕ) (b : Between) (heads lits hints marks tap
 
       stopped : Stops
       stopped = stopped-by stop.fault case-at
+
       stopped_codes : (stop.end - b.used) + stop.many ≤ length (tokens (drop at proof))
       stopped_codes = omega (arith, stopped.placed.count, stopped.noted.count, stopped.at_least)
+
       short_lacks : StepShort (length marks) proof at b.used lits hints lits' hints' stop.at stop.end stop.many
           → Lacks heads lits hints tape (length marks) b.n b.used (tokens (drop at proof))
       short_lacks x = record {
