@@ -2,6 +2,8 @@
 // Whatever the verdict, the marks are left as they were. Nothing is promised of slices that hold no store, nor of what is left
 // on the tape. The turns of every loop, also of those of other crates, are counted, up to the greatest number, so that no
 // slice can be too long.
+// The view and the assignment go side by side, and no struct of both: one is read and the other written to, and `Fit` and
+// `Ready`, which speak of both, are asked for by `judge_addition`, so that neither type can hold them.
 #![tactic(auto)]
 
 ghost use Rattle.std.specs.Prelude.{◌≡◌, ◌+◌, ◌/◌, ◌<◌, Ok, length, map, drop, slice_index};

@@ -7,6 +7,8 @@ ghost use Rattle.assignment.specs.Marks.{Paired, Marked, Falsifies, Undoable, Un
 ghost use Rattle.assignment.specs.Sight.{Counted, Latest, Behind, OneLooks, Looks};
 
 // The marks, the tape, and how many numbers are on the tape.
+// (Marks are bytes and the tape is a slice with a count: C lends both, and there is no heap for a Vec. That the marks are paired
+// is no part of the type: `falsify` and `undo` never asked for it, and a type asks as a clause does.)
 #[derive(Drop)]
 pub struct Assignment<'a> {
     pub marks: &'a mut [u8],
@@ -59,6 +61,8 @@ impl Assignment<'_> {
 }
 
 // The marks of the numbers on the tape from `from` up to `to` are taken away. Returns the turns.
+// (It stands beside the method: it takes a tape that it only reads, where the method would ask for one to write to;
+// docs/STATEMENTS.md names it.)
 pub fn undo(marks: &mut [u8], tape: &[u32], from: usize, to: usize) -> u64
     requires { Undoable marks.old tape.now from to }
     ensures { Undone marks.old tape.now from to marks.new × (result ≡ to - from) }
@@ -97,8 +101,8 @@ fn only_one(x: u32, marks: &[u8]) -> Look
     }
 }
 
-// The place behind `i`, or `i` again if that is the last one. (Tried: `min(i + 1, n - 1)`. Taking hints, which no change may make
-// slower, then has 2.5 percent more instructions, over 30,000 additions with deletions.)
+// The place behind `i`, or `i` again if that is the last one. (Tried: `min(i + 1, n - 1)`. Taking hints then has 2.5 percent
+// more instructions, over 30,000 additions with deletions.)
 fn behind(i: usize, n: usize) -> usize
     requires { i < n }
     ensures { Behind i n result }

@@ -34,6 +34,7 @@ pub enum Answer {
 
 impl Answer {
     // The number of the step that an answer comes with, or 0.
+    // (0 and no Option: `step_of` of specs/Promises, which may not change, has it so, and C is lent one number.)
     pub fn step(self) -> u64
         ensures { result ≡ step_of self }
     {
@@ -48,6 +49,7 @@ impl Answer {
 }
 
 // An answer, and the number of turns that the loops made for it.
+// (No `Timed<Answer>`: this is the front door, whose callers and docs/STATEMENTS.md name its fields.)
 #[derive(Clone, Copy)]
 pub struct Checked {
     pub answer: Answer,
@@ -100,6 +102,7 @@ fn clear(marks: &mut [u8]) -> u64
 
 // The turns of reading a formula of so many bytes, of which so many literals and clauses were stored: a byte is passed up to four
 // times, a literal is stored and looked at again, and a clause is read and closed.
+// (Not the `reading` of `stepping`: there bytes and codes are counted once each, here bytes four times and the rest twice.)
 fn reading(bytes: usize, used: usize, closed: usize) -> u64
     ensures { Charged bytes used closed result }
 {

@@ -32,6 +32,8 @@ pub fn run(proof: &[u8], first: Between, work: &mut Work) -> Timed<Result<Finish
     let mut done: u64 = 0;
     let mut turns: u64 = 0;
     let mut known = first;
+    // A `for` would be no plainer: a turn takes a step, and how many there are is known only behind the last. `done` is part of
+    // the answer.
     loop {
         let taken = stepping::take_step(proof, at, known, work);
         turns = clauses::plus(turns, taken.turns);

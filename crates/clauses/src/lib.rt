@@ -37,6 +37,7 @@ pub struct Compacted {
 }
 
 // The id that a hint's or a deletion's code has.
+// (A function, and no division at each call: `half` of specs/Codes is what it says, and `find` asks for the bound.)
 pub fn half(x: u32) -> u64
     ensures { (result ≡ x / 2) × (result < 2 ^ 60) }
 {
@@ -44,6 +45,7 @@ pub fn half(x: u32) -> u64
 }
 
 // Turns and more turns, up to the greatest count.
+// (`saturating_add` under a name: `Counts`, by which every count of turns is promised, is its contract.)
 #[inline]
 pub fn plus(turns: u64, more: u64) -> u64
     ensures { Counts turns more result }
@@ -52,6 +54,8 @@ pub fn plus(turns: u64, more: u64) -> u64
 }
 
 // The opposite of a literal.
+// (A literal is a number whose last bit is its sign, and no enum: `literal_of` and `opposite_code`, which may not change, have it
+// so, and C lends numbers.)
 #[tactic(auto, unfolding(crate::specs::Codes::opposite_code))]
 pub fn opposite(l: u32) -> u32
     requires { l < 2 ^ 31 }
@@ -62,6 +66,8 @@ pub fn opposite(l: u32) -> u32
 
 // The head of the `k`-th clause: twice its id, plus 1 if it is deleted. (It is one number, no id with a flag: `Store` and `id_at`, which
 // may not change, have it so.)
+// (Three numbers of `heads` are a clause, and no struct: C lends a slice of `u32`, and `id_at`, `start_at` and `written`, which
+// may not change, say which they are.)
 pub fn head_at(heads: &[u32], k: usize) -> u64
     requires { 3 * k < length heads.now }
     ensures { result ≡ id_at heads.now k }
@@ -152,6 +158,7 @@ fn below(id: u64, place: usize) -> usize {
 }
 
 // How far the clause `id` is guessed to lie below that place.
+// (0 where there is no slot, and no Option: any guess will do.)
 #[inline]
 fn noted(guess: &[u32], id: u64) -> usize {
     match slot(guess, id) {
@@ -295,6 +302,7 @@ pub fn delete(heads: &mut [u32], k: usize)
 }
 
 // The `k`-th clause moves down behind those that stay, if it is live.
+// (No `View`, here and in `compact`: heads and literals are written to, and a `View` only reads.)
 fn keep(heads: &mut [u32], lits: &mut [u32], k: usize, done: Compacted) -> Compacted
     requires { Movable heads.old lits.old k done.n done.used done.turns }
     ensures { OneMoved heads.old lits.old k done heads.new lits.new result }

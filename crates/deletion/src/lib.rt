@@ -55,6 +55,7 @@ fn delete_one(heads: &mut [u32], n: usize, guess: &[u32], id: u64) -> Timed<Opti
 }
 
 // Deletes the clauses whose ids these stand for, in order, up to the first that is not live.
+// (No `View`: the heads are lent to be written to, and the guesses are only read.)
 pub fn delete_all(heads: &mut [u32], n: usize, guess: &[u32], ids: &[u32]) -> Deleted
     requires { Headed heads.old n }
     ensures { Deletes heads.old n ids.now heads.new result.outcome result.dead result.turns }

@@ -37,6 +37,7 @@ pub struct Progress {
 }
 
 // The literals that follow, up to 0, go behind those that are stored; so many clauses were closed before.
+// (The whole slice, and not what lies behind `used`: `ReadsClause` says of it what stays.)
 pub fn read_clause(
     s: &[u8],
     from: Progress,
@@ -121,6 +122,7 @@ pub fn read_clauses(
 }
 
 // The greatest of the numbers, or 0.
+// (0 where there is none, and no Option: `greatest`, by which `Reads` says what is stored, has it so.)
 pub fn greatest_code(lits: &[u32]) -> u32
     ensures { result ≡ greatest lits.now }
 {

@@ -2,7 +2,8 @@
 //
 // The way of the data: `opening` passes the comment lines and reads the line `p cnf V C`; `body` reads the clauses; `writer`
 // (a crate of its own) writes them out. Room goes by what occurs in the text and not by what the header announces.
-// The functions take a text and a place in it: `ReadsClause` and `ReadsBody` speak of places in the whole text, and may not change.
+// The functions take a text and a place in it: `ReadsClause` and `ReadsBody` speak of places in the whole text, and what
+// they say may not change.
 // What is promised of unreadable bytes is only that they are found out, and of a store that is too short that it was.
 #![tactic(auto)]
 

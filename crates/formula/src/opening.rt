@@ -12,6 +12,7 @@ use crate::{MAX_CLAUSES, MAX_VARIABLE};
 use text::Token;
 
 // The place of the first byte x, or the end.
+// (The end stands for none, and no Option: what is cut there is all of the rest, and `FirstAt` has it so.)
 fn place_of(s: &[u8], x: u8) -> usize
     ensures { FirstOf x s.now result }
 {

@@ -5,6 +5,7 @@
 use formula::{Fault, NotWritten, Stopped, Stored};
 use std::io::{Write, writer};
 
+// (No `Display`: the words are this program's own, held by its `stdout`.)
 fn show_read(rt: &HostRuntime, r: Result<Stored, Stopped>) -> std::io::Result<()> {
     match r {
         Ok(

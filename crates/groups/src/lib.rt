@@ -1,6 +1,7 @@
 // Rule 4 of document 01, section 5, its first part: the groups of hints begin with exactly the ids of the live clauses that
 // contain the opposite of p, each once, in increasing order. One walk over the store and over the hints finds that out. What the
 // hints of a group do is not judged here, and nothing is promised of slices that hold no store.
+// The hints stand beside a place in them, and are not cut: `GroupAt`, `NextGroup` and `Matches` count places from the first hint.
 #![tactic(auto)]
 
 ghost use Rattle.std.specs.Prelude.{◌≡◌, map, ◌+◌, ◌-◌, ◌/◌, ◌<◌, ◌≤◌, ◌^◌, length};
@@ -21,6 +22,8 @@ pub fn contains(clause: &[u32], x: u32) -> bool
 
 // The first place from `from` on where a group begins, or the end.
 // (A hint with which a group begins is told by its last bit, and not by an enum: the C interface lends a slice of `u32` for the hints.)
+// (The end stands for no group, and no Option: `NextGroup`, which may not change, speaks of a place up to the end, where the
+// hints are cut.)
 pub fn next_group(hints: &[u32], from: usize) -> usize
     requires { from ≤ length hints.now }
     ensures { NextGroup hints.now from result }

@@ -33,6 +33,8 @@ pub enum Fault {
 }
 
 // What the clause `id` shows, behind a peek for it; or nothing, if it is not live.
+// (`Peeks` is asked here and no type holds it: what was peeked is an `Option<usize>`, and the view and the id that it belongs to
+// stand beside it.)
 #[inline]
 pub fn hint(view: View, peeked: Option<usize>, marks: &[u8], id: u64) -> Timed<Option<Look>>
     requires ready { Ready view.heads.now view.lits.now view.n marks.now }

@@ -11,6 +11,7 @@ use checker::{Answer, Work};
 use formula::NotWritten;
 
 // The number that document 01 gives an answer.
+// (Numbers for kinds are the C interface's. No `From<Answer> for u64`: neither type is this crate's.)
 fn number(a: Answer) -> u64
     ensures { result ≡ number_of a }
 {
@@ -25,6 +26,7 @@ fn number(a: Answer) -> u64
 }
 
 // Checks a proof against a formula.
+// (The parts apart: C lends them so.)
 #[unsafe(no_mangle)]
 pub extern "C" fn proofscale_check(
     formula: &[u8],

@@ -34,6 +34,7 @@ pub struct Work<'a> {
 
 // What is known between two steps: how many clauses the store has, live or deleted; how many literals; the greatest of C and
 // the ids added so far; and how much of the store belongs to deleted clauses, one for each clause and one for each literal.
+// (How much of the slices is in use stands here, and no Vec: C lends the slices for the whole run, and there is no heap.)
 #[derive(Clone, Copy)]
 pub struct Between {
     pub n: usize,
@@ -98,6 +99,7 @@ pub struct Taken {
 
 // The turns of reading a step that passed so many bytes and stored so many literals, hints or ids (it has three tokens more), and
 // of what came then.
+// (Not the `reading` of `checker`, which counts a byte four times, and literals and clauses twice.)
 fn reading(bytes: usize, codes: usize, more: u64) -> u64
     ensures { Spent bytes codes more result }
 {
@@ -106,6 +108,7 @@ fn reading(bytes: usize, codes: usize, more: u64) -> u64
 }
 
 // The clause whose literals end at `end` was judged under `id`: if it was accepted, it becomes live, unless it is empty.
+// (The parts that it changes alone, and no `Work`: what it leaves as it was need not be said.)
 fn accept(
     judged: Result<(), addition::Failure>,
     heads: &mut [u32],
@@ -136,6 +139,7 @@ fn accept(
 }
 
 // Gives the room of deleted clauses back, if they have more than half of all.
+// (The parts that it changes alone, as `accept`.)
 fn give_back(heads: &mut [u32], lits: &mut [u32], guess: &mut [u32], b: Between) -> Timed<Between>
     requires { Counted heads.old lits.old b }
     ensures back { GivesBack heads.old lits.old b heads.new lits.new result.value }
@@ -272,6 +276,7 @@ impl Taken {
 }
 
 // Takes the step at `at`: reads it, judges it, and brings the store up to date.
+// (The whole text and a place in it: `TakesStep` names the place and the one behind.)
 pub fn take_step(proof: &[u8], at: usize, b: Between, work: &mut Work) -> Taken
     requires keeps { Keeps work.old.heads.now work.old.lits.now work.old.marks.now b }
     requires at_in_bounds { at ≤ length proof.now }

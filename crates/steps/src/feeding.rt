@@ -42,6 +42,8 @@ pub struct Phase {
 }
 
 // What a token came to, where the step is readable and there was room: more is to be read, or the step is whole.
+// (The two last cases are `Step`'s, and no `Whole(Step)`: `Feeds` promises something of its own of each, and a case within a case
+// would be no plainer.)
 #[derive(Clone, Copy)]
 pub enum Fed {
     More(Phase),

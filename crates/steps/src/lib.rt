@@ -6,7 +6,8 @@
 // its hints but that they are what the text says. Of an unreadable step it is promised that it is found out, and of slices that
 // are too short that they are; either way the first `used` of `lits` stay.
 //
-// The functions take a text and a place in it: `Along` and `ReadsStep` speak of places in the whole text, and may not change.
+// The functions take a text and a place in it: `Along` and `ReadsStep` speak of places in the whole text, and what they
+// say may not change.
 //
 // The turns of the two loops can be told from what is returned: one for each token taken (exactly, behind a whole step; up to
 // two tokens more than there are codes, where it stopped), one more where it stopped or nothing was left, and the bytes passed
@@ -74,6 +75,7 @@ fn along(s: &[u8], from: usize, limit: u64, slots: &mut [u32], first: usize) -> 
 }
 
 // A reader that stands at `from` takes the literals or hints that follow there: the place behind them.
+// (A match on the kind, as in `feed`: two kinds read on, three do nothing.)
 fn go_on(
     s: &[u8],
     from: usize,
@@ -122,6 +124,7 @@ pub fn read_step(
         end: used,
         many: 0,
     };
+    // A `for` would be no plainer: a turn goes on where the last token ended.
     loop {
         let Scanned { token, next } = text::token_at(s, i);
         match phase.feed(token, cells, lits, hints) {

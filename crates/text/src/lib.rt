@@ -102,6 +102,7 @@ fn long(s: &[u8], from: usize) -> Option<Scanned<u64>>
 
 // The digits from `from` on, behind a number that is `first` so far: up to the last one, or until it is above `MOST`. Nothing
 // else is done here, so that the loop keeps all it needs in registers.
+// (Tried: a `for`, as in `behind`. Reading a formula then takes 3 percent more instructions.)
 fn run(s: &[u8], from: usize, first: u64) -> Scanned<u64>
     requires { first ≤ most }
     ensures { Ran s.now first from result.token result.next }

@@ -21,6 +21,7 @@ struct Case<'a> {
 }
 
 // Puts text behind the first n bytes of out, as far as there is room, and returns how many bytes there are then.
+// (A buffer with a length and no String: the programs of the gate allocate nothing.)
 fn append(out: &mut [u8], n: usize, text: &[u8]) -> usize
     ensures { IsPrefixLen result out.new }
 {
@@ -57,6 +58,7 @@ fn say_step(rt: &HostRuntime, number: &str, step: u64, expected: &[u8]) -> Resul
     say_whether(rt, is_expected(number.as_bytes(), step, expected), expected)
 }
 
+// (No `Display`: the words are this program's own, held by its `stdout`.)
 fn show(rt: &HostRuntime, a: Answer, expected: &[u8]) -> Result<()> {
     match a {
         Answer::Verified { step } => say_step(rt, "0", step, expected),
@@ -97,6 +99,7 @@ fn with_room(rt: &HostRuntime, case: Case) -> Result<()> {
 }
 
 // With a store for two dozen short clauses with variables up to 9.
+// (Beside `with_room`, and no function of sizes: what is in the store before differs, which is what `with_room` tries.)
 fn with_little(rt: &HostRuntime, case: Case) -> Result<()> {
     print!(rt; "    with little room")?;
     let mut work = Work {
@@ -153,6 +156,7 @@ fn read<'a>(rt: &HostRuntime, name: &[u8], ending: &[u8], buffer: &'a mut [u8]) 
     files::read(rt, &path[..n], buffer)
 }
 
+// (`parts` is a flag and no closure: there are two ways to run a case, and what they share is the reading alone.)
 fn one(rt: &HostRuntime, name: &[u8], parts: bool) -> Result<()> {
     let mut formula = [0; 4096];
     let mut proof = [0; 4096];

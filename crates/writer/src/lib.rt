@@ -39,6 +39,8 @@ fn digit(x: u64) -> u8
 }
 
 // Writes the digits of a number, from the last one on, into a slice that is as long as they are.
+// (By hand and by no `write!`: the promise is `decimal` of document 01 to the byte, into a lent slice, and every turn is
+// counted.)
 fn write_digits(place: &mut [u8], v: u64)
     requires { length place.old ≡ length (decimal v) }
     ensures { place.new ≡ decimal v }
