@@ -147,8 +147,8 @@ fn check_stored(proof: &[u8], work: &mut Work, stored: Stored, before: u64) -> C
     }
 }
 
-// As `check`, where there is an even number of marks, and no more than there are literals. It takes the parts one by one: tried, a `Work`
-// whose marks are a part of another's, and the borrow checker does not cover it.
+// As `check`, where there is an even number of marks, and no more than there are literals. (It takes the parts one by one. Tried: a
+// `Work` whose marks are a part of another's. There is no proof of it: the borrow checker does not cover the form.)
 fn check_marked(
     formula: &[u8],
     proof: &[u8],

@@ -206,8 +206,8 @@ impl Work<'_> {
     }
 }
 
-// Judges the deletion of the clauses that these ids stand for, and gives room back. It takes the parts one by one: how long a slice
-// can be is known of a parameter, not of a field behind `&mut Work`, and the sum of what is dead rests on that.
+// Judges the deletion of the clauses that these ids stand for, and gives room back. (Tried: a method of `Work`. The proof did not close:
+// how long a slice can be is known of a parameter, not of a field behind a reference, and the sum of what is dead rests on that.)
 fn delete(
     heads: &mut [u32],
     lits: &mut [u32],
