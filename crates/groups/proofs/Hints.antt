@@ -103,7 +103,8 @@ module _ (hints : List ℕ) where
   leading-first from n = leading_next 0 from n
 
   -- The search for the next group, among the hints from a place on.
-  pub next_found : (from r : ℕ) (rest : List ℕ) → from ≤ length hints → rest ≡ drop from hints → r ≤ length rest → ((k : ℕ) → k < r → get_or rest k 0 % 2 ≡ 0) → (r < length rest → get_or rest r 0 % 2 ≡ 0 → ⊥)
+  pub next_found : (from r : ℕ) (rest : List ℕ) → from ≤ length hints → rest ≡ drop from hints → r ≤ length rest → ((k : ℕ) → k < r → get_or rest k 0 % 2 ≡ 0)
+      → (r < length rest → get_or rest r 0 % 2 ≡ 0 → ⊥)
       → NextGroup hints from (from + r)
   next_found from r rest inside is most evens odd = record {
     passed = record {

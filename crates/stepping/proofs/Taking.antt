@@ -1,6 +1,7 @@
 -- Taking one step: what was read is judged, and what that comes to for the run. Assumes nothing.
 use Rattle.std.specs.Prelude.{Option, Some, Result, Ok, Err}
-use Rattle.std.proofs.Common.{ℕ, ◌+◌, ◌-◌, ◌*◌, ◌^◌, ◌<◌, ◌≤◌, ◌≡◌, refl, sym, ap, ◌∙◌, inl, inr, ⊎_elim, List, map, arith, add-mul, mul_comm, mul-le-mul, length, get_or, take, drop, length-drop, length-take-le}
+use Rattle.std.proofs.Common.{ℕ, ◌+◌, ◌-◌, ◌*◌, ◌^◌, ◌<◌, ◌≤◌, ◌≡◌, refl, sym, ap, ◌∙◌, inl, inr, ⊎_elim, List, map}
+use Rattle.std.proofs.Common.{arith, add-mul, mul_comm, mul-le-mul, length, get_or, take, drop, length-drop, length-take-le}
 use Rattle.std.proofs.Math.Option.{some}
 use Rattle.rules.specs.Text.{tokens}
 use Rattle.rules.specs.Steps.{Step, add, delete}

@@ -135,7 +135,8 @@ module _ (s : List ℕ) (at : ℕ) (h : at < length s) where
     pub signed_minus : (n : Scanned ℕ) → get_or s at 0 ≡ 45 → Positive (at + sign) (drop (at + sign) s) (Some n) → Guessing at (drop at s) (Some (record { token = Minus n.token; next = n.next }))
     signed_minus n e p = sign_minus n e (behind_sign (Some n) e p)
 
-    pub signed_plus : (n : Scanned ℕ) → Numeral (get_or s at 0) → (get_or s at 0 ≡ 45 → ⊥) → Positive (at + sign) (drop (at + sign) s) (Some n) → Guessing at (drop at s) (Some (record { token = Plus n.token; next = n.next }))
+    pub signed_plus : (n : Scanned ℕ) → Numeral (get_or s at 0) → (get_or s at 0 ≡ 45 → ⊥) → Positive (at + sign) (drop (at + sign) s) (Some n)
+        → Guessing at (drop at s) (Some (record { token = Plus n.token; next = n.next }))
     signed_plus n b e p = plain-plus n (plain_by b e) (no_sign (Some n) e p)
 
 -- Behind the blanks.

@@ -18,7 +18,9 @@ pub only_one-requires-clause-x_in_bounds : goal.only_one-requires-clause-x_in_bo
 only_one-requires-clause-x_in_bounds c =
     let k : Looked c.args.clause.now c.args.marks.now c.loop-i-test.others c.loop-i-test.last = elim c.loop-i-test.branch [
       | else-loop-i-test w ↦ looked _ _ _ _ _ _ _ w.others-is w.last-is w.loop-i-test.false c.loop-i.invariant
-      | then-loop-i-test+else-i-end-i-gt2 w ↦ looked _ _ _ _ _ _ _ w.others-is w.last-is (search rules) (looking_two _ _ _ _ _ c.loop-i.invariant c.requires.marked w.loop-i-test.true _ w.behind.ensures c.requires.paired _ _ w.counted-first.ensures w.latest-middle.ensures _ _ w.counted-second.ensures w.latest-last.ensures)
+      | then-loop-i-test+else-i-end-i-gt2 w ↦ looked _ _ _ _ _ _ _ w.others-is w.last-is (search rules)
+          (looking_two _ _ _ _ _ c.loop-i.invariant c.requires.marked w.loop-i-test.true _ w.behind.ensures c.requires.paired _ _ w.counted-first.ensures w.latest-middle.ensures
+          _ _ w.counted-second.ensures w.latest-last.ensures)
     ] in
     looking_below _ _ _ _ _ k.looking c.requires.marked c.in-1.is
 
@@ -26,7 +28,9 @@ pub returns-in-0 : goal.returns-in-0
 returns-in-0 c =
     let k : Looked c.args.clause.now c.args.marks.now c.loop-i-test.others c.loop-i-test.last = elim c.loop-i-test.branch [
       | else-loop-i-test w ↦ looked _ _ _ _ _ _ _ w.others-is w.last-is w.loop-i-test.false c.loop-i.invariant
-      | then-loop-i-test+else-i-end-i-gt2 w ↦ looked _ _ _ _ _ _ _ w.others-is w.last-is (search rules) (looking_two _ _ _ _ _ c.loop-i.invariant c.requires.marked w.loop-i-test.true _ w.behind.ensures c.requires.paired _ _ w.counted-first.ensures w.latest-middle.ensures _ _ w.counted-second.ensures w.latest-last.ensures)
+      | then-loop-i-test+else-i-end-i-gt2 w ↦ looked _ _ _ _ _ _ _ w.others-is w.last-is (search rules)
+          (looking_two _ _ _ _ _ c.loop-i.invariant c.requires.marked w.loop-i-test.true _ w.behind.ensures c.requires.paired _ _ w.counted-first.ensures w.latest-middle.ensures
+          _ _ w.counted-second.ensures w.latest-last.ensures)
     ] in
     looking_none _ _ _ _ _ k.looking c.requires.marked k.past c.in-0.is
 
@@ -34,7 +38,9 @@ pub returns-in-1 : goal.returns-in-1
 returns-in-1 c =
     let k : Looked c.args.clause.now c.args.marks.now c.loop-i-test.others c.loop-i-test.last = elim c.loop-i-test.branch [
       | else-loop-i-test w ↦ looked _ _ _ _ _ _ _ w.others-is w.last-is w.loop-i-test.false c.loop-i.invariant
-      | then-loop-i-test+else-i-end-i-gt2 w ↦ looked _ _ _ _ _ _ _ w.others-is w.last-is (search rules) (looking_two _ _ _ _ _ c.loop-i.invariant c.requires.marked w.loop-i-test.true _ w.behind.ensures c.requires.paired _ _ w.counted-first.ensures w.latest-middle.ensures _ _ w.counted-second.ensures w.latest-last.ensures)
+      | then-loop-i-test+else-i-end-i-gt2 w ↦ looked _ _ _ _ _ _ _ w.others-is w.last-is (search rules)
+          (looking_two _ _ _ _ _ c.loop-i.invariant c.requires.marked w.loop-i-test.true _ w.behind.ensures c.requires.paired _ _ w.counted-first.ensures w.latest-middle.ensures
+          _ _ w.counted-second.ensures w.latest-last.ensures)
     ] in
     looking_one _ _ _ _ _ k.looking c.requires.marked k.past c.in-1.is _ c.only_one.ensures
 
@@ -42,6 +48,8 @@ pub returns-in_default : goal.returns-in_default
 returns-in_default c =
     let k : Looked c.args.clause.now c.args.marks.now c.loop-i-test.others c.loop-i-test.last = elim c.loop-i-test.branch [
       | else-loop-i-test w ↦ looked _ _ _ _ _ _ _ w.others-is w.last-is w.loop-i-test.false c.loop-i.invariant
-      | then-loop-i-test+else-i-end-i-gt2 w ↦ looked _ _ _ _ _ _ _ w.others-is w.last-is (search rules) (looking_two _ _ _ _ _ c.loop-i.invariant c.requires.marked w.loop-i-test.true _ w.behind.ensures c.requires.paired _ _ w.counted-first.ensures w.latest-middle.ensures _ _ w.counted-second.ensures w.latest-last.ensures)
+      | then-loop-i-test+else-i-end-i-gt2 w ↦ looked _ _ _ _ _ _ _ w.others-is w.last-is (search rules)
+          (looking_two _ _ _ _ _ c.loop-i.invariant c.requires.marked w.loop-i-test.true _ w.behind.ensures c.requires.paired _ _ w.counted-first.ensures w.latest-middle.ensures
+          _ _ w.counted-second.ensures w.latest-last.ensures)
     ] in
     looking_more _ _ _ _ _ k.looking c.requires.marked k.past (search rules)
