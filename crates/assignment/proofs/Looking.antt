@@ -1,6 +1,8 @@
 -- Laws of looking at a clause: what is kept of the literals that are not false says what the document's definition, which
 -- takes them out first, says. The code keeps it as two numbers, and the laws as a value of `Open`. Assumes nothing.
-use Rattle.std.proofs.Common.{ℕ, zero, suc, ◌+◌, ◌<◌, ◌≤◌, ◌≡◌, true, false, List, [], ◌∷◌, map, eqb, length, get_or, drop}
+use Rattle.std.specs.Int.{div_ceil}
+use Rattle.std.proofs.lemmas.Grind.{div_ceil_times}
+use Rattle.std.proofs.Common.{ℕ, zero, suc, ◌+◌, ◌*◌, ◌<◌, ◌≤◌, ◌≡◌, true, false, List, [], ◌∷◌, map, eqb, length, get_or, drop}
 use Rattle.std.proofs.Common.{refl, sym, ap, subst, ◌∙◌, ⊎_elim, add-one, arith, eqb-true, eq-eqb, ne_eqb, drop_of_length-le, drop-cons, add_assoc}
 use borrow.Author.Tests.{eqb-false}
 use Rattle.meaning.specs.Meaning.{Literal, Clause}
@@ -287,14 +289,14 @@ module _ (clause marks : List ℕ) (others last i : ℕ) (l : Looking clause mar
       looking_again clause marks (others + first) middle (i + 1) one known none (get_or clause i 0) (get_or marks (get_or clause i 0) 0) last m second last' (rw q at k') (rw q at m'))
       (cut (i + 1) (length clause))))
 
--- Every literal was read, up to some place behind the last.
-pub record Looked (clause marks : List ℕ) (others last : ℕ) : Type 0 where
-  pub place : ℕ
-  pub past : length clause ≤ place
-  pub looking : Looking clause marks others last place
+-- Two literals to a turn
 
-pub looked : (clause marks : List ℕ) (others last i others' last' : ℕ) → others' ≡ others → last' ≡ last → length clause ≤ i → Looking clause marks others last i → Looked clause marks others' last'
-looked clause marks others last i others' last' e f past l = rw (e, f) record { place = i; past = past; looking = l }
+-- Each of the turns begins inside of the clause, and behind the last nothing is left.
+pub turn_inside : (n turns k : ℕ) → k < turns → turns ≡ div_ceil n 2 → 2 * k < n
+turn_inside n turns k h e = omega (arith, div_ceil_times n 2 (omega arith))
+
+pub turns_past : (n turns k : ℕ) → turns ≤ k → turns ≡ div_ceil n 2 → n ≤ 2 * k
+turns_past n turns k h e = omega (arith, div_ceil_times n 2 (omega arith))
 
 -- One literal alone
 

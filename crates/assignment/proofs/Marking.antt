@@ -1,6 +1,6 @@
 -- Laws of marks and the tape: what a mark says, what one more mark does, one way after another, and going back. Assumes
 -- nothing.
-use Rattle.std.proofs.Common.{ℕ, ◌+◌, ◌%◌, ◌<◌, ◌≤◌, ◌≡◌, Bool, true, false, ◌||◌, List, [], ◌∷◌, eqb, length, get_or, set}
+use Rattle.std.proofs.Common.{ℕ, ◌+◌, ◌-◌, ◌%◌, ◌<◌, ◌≤◌, ◌≡◌, Bool, true, false, ◌||◌, List, [], ◌∷◌, eqb, length, get_or, set}
 use Rattle.std.proofs.Common.{refl, sym, ap, ◌∙◌, ⊎_elim, arith, eqb-true, eq-eqb, ne_eqb, length-set, get_or-set_same, get_or-set_other, ext_get_or}
 use borrow.Author.Tests.{eqb-false}
 use Rattle.meaning.specs.Meaning.{Literal, pos, neg}
@@ -171,12 +171,14 @@ laid_undoable m₀ tape₀ t₀ m tape t f = record { before = m₀; differ = f.
 -- Going back
 
 -- The numbers from `from` up to i are taken back.
-pub record Undoing (marks tape : List ℕ) (from to : ℕ) (marks' : List ℕ) (i : ℕ) : Type 0 where
+pub record Undoing (marks tape : List ℕ) (from to : ℕ) (marks' : List ℕ) (i turns : ℕ) : Type 0 where
   pub left : (before : List ℕ) → Differ before marks tape from to → Differ before marks' tape i to
   pub long : length marks' ≡ length marks
+  pub counted : turns ≡ i - from
   pub later : from ≤ i
+  pub so_far : i ≤ to + (from - to)
 
-module _ (marks tape : List ℕ) (from to : ℕ) (marks' : List ℕ) (i : ℕ) (u : Undoing marks tape from to marks' i) where
+module _ (marks tape : List ℕ) (from to : ℕ) (marks' : List ℕ) (i turns : ℕ) (u : Undoing marks tape from to marks' i turns) where
   module _ (x : ℕ) (e : x ≡ get_or tape i 0) (h : i < to) where
     differ_less : (before : List ℕ) → Differ before marks' tape i to → Differ before (set marks' x 0) tape (i + 1) to
     differ_less before d = record {
@@ -193,11 +195,13 @@ module _ (marks tape : List ℕ) (from to : ℕ) (marks' : List ℕ) (i : ℕ) (
           ∙ d.others y (λ j g l p. ⊎_elim (λ now. w (sym p ∙ (ap (λ (k : ℕ). get_or tape k 0) (let same : j ≡ i = omega arith in same) ∙ sym e))) (λ later. n j later l p) (cut j (i + 1))));
     }
 
-    pub undoing_on : Undoing marks tape from to (set marks' x 0) (i + 1)
+    pub undoing_on : Undoing marks tape from to (set marks' x 0) (i + 1) (turns + 1)
     undoing_on = record {
       left = λ before d. differ_less before (u.left before d);
       long = length-set marks' x 0 ∙ u.long;
+      counted = omega (arith, u.counted, u.later);
       later = omega (arith, u.later);
+      so_far = omega arith;
     }
 
   pub undoing_done : to ≤ i → Undone marks tape from to marks'
@@ -207,3 +211,6 @@ module _ (marks tape : List ℕ) (from to : ℕ) (marks' : List ℕ) (i : ℕ) (
         let left = u.left before d in
         ext_get_or 0 marks' before left.long (λ x l. left.others x (λ j g k q. omega arith));
   }
+
+  pub undoing_turns : to ≤ i → turns ≡ to - from
+  undoing_turns h = omega (arith, u.counted, u.later, u.so_far)

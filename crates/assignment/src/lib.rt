@@ -67,10 +67,12 @@ pub fn undo(marks: &mut [u8], tape: &[u32], from: usize, to: usize) -> u64
     requires { Undoable marks.old tape.now from to }
     ensures { Undone marks.old tape.now from to marks.new × (result ≡ to - from) }
 {
+    let mut turns: u64 = 0;
     for i in from..to {
         marks[tape[i] as usize] = 0;
+        turns += 1;
     }
-    to.saturating_sub(from) as u64
+    turns
 }
 
 // 1 if a literal with this mark is not false and is another one than the last that was not, else 0.
@@ -123,7 +125,8 @@ pub fn look_at(clause: &[u32], marks: &[u8]) -> Look
 {
     let mut others: usize = 0;
     let mut last: u32 = u32::MAX;
-    for i in (0..clause.len()).step_by(2) {
+    for k in 0..clause.len().div_ceil(2) {
+        let i = 2 * k;
         let x = clause[i];
         let y = clause[behind(i, clause.len())];
         let mark = marks[x as usize];

@@ -256,10 +256,12 @@ pub fn note_all(heads: &[u32], n: usize, guess: &mut [u32]) -> u64
     ensures long { length guess.new ≡ length guess.old }
 {
     fit(guess, n);
+    let mut noted: u64 = 0;
     for place in 0..n {
         note(guess, head_at(heads, place) / 2, place);
+        noted += 1;
     }
-    n as u64
+    noted
 }
 
 // The store becomes empty: its first clause, once there is one, begins where the literals do.
@@ -333,9 +335,11 @@ pub fn compact(heads: &mut [u32], lits: &mut [u32], n: usize) -> Compacted
         used: 0,
         turns: 0,
     };
+    let mut passed: u64 = 0;
     for k in 0..n {
         done = keep(heads, lits, k, done);
+        passed += 1;
     }
-    done.turns += n as u64;
+    done.turns += passed;
     done
 }

@@ -1,4 +1,5 @@
 -- The line `p cnf V C`: its prefix, and a whole slice as a number. Assumes nothing.
+use Rattle.std.proofs.Math.Seq.{take-length}
 use Rattle.std.proofs.Common.{ℕ, suc, ◌+◌, ◌*◌, ◌-◌, ◌<◌, ◌≡◌, true, false, List, [], ◌∷◌, eqb, leb, length, take, drop, get_or}
 use Rattle.std.proofs.Common.{refl, sym, ap, ◌∙◌, arith, eq-eqb, ne_eqb, eqb-true, leb-true}
 use borrow.Author.Tests.{eqb-false}
@@ -210,3 +211,7 @@ module _ (line numbers : List ℕ) (p : pointwise eqb (take 6 line) (bytes "p cn
     header_both c e =
         rw (prefix, f.is_before, count_of_some (count max_variable (token (take space numbers))) v is, ← rest_is)
         (rw (count_of_some (count max_clauses (token (take (length numbers - r) (drop r numbers)))) c e))
+
+-- A cut at the beginning leaves all of a list.
+pub uncut : (l whole : List ℕ) → l ≡ whole → take (length l - 0) l ≡ whole
+uncut l whole e = let all : length l - 0 ≡ length l = omega arith in rw all (take-length l ∙ e)

@@ -1,9 +1,8 @@
 -- Comment lines, and the first place of a byte: laws for the loops of src/opening.rt. Assumes nothing.
-use Rattle.std.proofs.Common.{ℕ, zero, suc, ◌+◌, ◌≤◌, ◌<◌, ◌≡◌, ◌≢◌, true, false, List, [], ◌∷◌, eqb, length, drop, get_or}
-use Rattle.std.proofs.Common.{refl, sym, ap, ◌∙◌, add-one, arith, eq-eqb, ne_eqb, drop_of_length-le, drop-cons}
-use Rattle.meaning.proofs.Truth.{bool_cases}
+use Rattle.std.proofs.Common.{ℕ, zero, suc, ◌+◌, ◌≤◌, ◌<◌, ◌≡◌, ◌≢◌, true, false, List, [], ◌∷◌, length, drop, get_or}
+use Rattle.std.proofs.Common.{refl, ap, ◌∙◌, add-one, arith, eq-eqb, ne_eqb, drop_of_length-le, drop-cons}
 use Rattle.rules.specs.Formula.{after_comments, before, behind}
-use Rattle.formula.specs.Opening.{AfterLine, AfterComments, FirstOf, FirstAt, Behind}
+use Rattle.formula.specs.Opening.{AfterLine, AfterComments, FirstOf}
 
 -- The first place of a byte
 
@@ -23,18 +22,29 @@ first_of x (b ∷ s) (suc r) h f e =
 
 -- The rest of a comment line
 
-inside_line : (t : List ℕ) → after_comments true t ≡ after_comments false (behind 10 t)
-unfolding after_comments behind
-inside_line [] = refl
-inside_line (b ∷ t) = bool_cases (eqb b 10) (λ y. rw (y, after_comments, behind)) (λ n. rw (n, after_comments, behind) (inside_line t))
+-- `at` is where it goes on, and up to i there is no line feed.
+pub record Inside (s : List ℕ) (at i : ℕ) : Type 0 where
+  pub same : after_comments true (drop at s) ≡ after_comments true (drop i s)
+  pub later : at ≤ i
+  pub within : i ≤ length s
 
-pub line_passed : (s : List ℕ) (at feed r : ℕ) → FirstAt 10 s at feed → Behind s feed r → AfterLine s at r
-line_passed s at feed r f b =
-    record {
-      same = inside_line (drop at s) ∙ ap (after_comments false) (f.is_behind ∙ sym b.same);
-      later = omega (arith, f.later, b.later);
-      within = b.within;
-    }
+module _ (s : List ℕ) (at i : ℕ) (r : Inside s at i) where
+  pub inside_end : length s ≤ i → AfterLine s at (length s)
+  unfolding after_comments
+  inside_end h = record {
+    same = r.same ∙ rw (drop_of_length-le s h, drop_of_length-le s (let e : length s ≤ length s = omega arith in e));
+    later = omega (arith, r.later, r.within);
+    within = omega arith;
+  }
+
+  module _ (h : i < length s) where
+    pub inside_on : (get_or s i 0 ≡ 10 → ⊥) → Inside s at (i + 1)
+    unfolding after_comments
+    inside_on e = record { same = r.same ∙ rw (add-one i, drop-cons s i 0 h, after_comments, ne_eqb (get_or s i 0) 10 e); later = omega (arith, r.later); within = omega arith }
+
+    pub inside_feed : get_or s i 0 ≡ 10 → AfterLine s at (i + 1)
+    unfolding after_comments
+    inside_feed e = record { same = r.same ∙ rw (add-one i, drop-cons s i 0 h, e); later = omega (arith, r.later); within = omega arith }
 
 -- Comment lines
 

@@ -78,7 +78,7 @@ module _ (v c : ℕ) (s : List ℕ) (line at : ℕ) (b : Behind s line at) (head
       body : BodyDone v c s at heads' lits' done.next done.used
       body = read.case
 
-      rest_fits : done.used ≤ length lits'
+      pub rest_fits : done.used ≤ length lits'
       rest_fits = body.holds.store.fits
 
       formula_of_lem : Formula

@@ -1,6 +1,7 @@
 -- A literal among those of a clause. Assumes nothing.
-use Rattle.std.proofs.Common.{ℕ, ◌≡◌, Bool, ◌||◌, List, [], ◌∷◌, map, eqb}
-use Rattle.std.proofs.Common.{refl, sym, ap, ◌∙◌, eqb-true, eq-eqb, ne_eqb}
+use Rattle.std.proofs.Math.Seq.{take-length}
+use Rattle.std.proofs.Common.{◌-◌, length, take, drop, ℕ, ◌≡◌, Bool, ◌||◌, List, [], ◌∷◌, map, eqb}
+use Rattle.std.proofs.Common.{arith, refl, sym, ap, ◌∙◌, eqb-true, eq-eqb, ne_eqb}
 use borrow.Author.Tests.{eqb-false}
 use Rattle.meaning.proofs.Truth.{bool_cases}
 use Rattle.std.specs.List.{list_any}
@@ -17,3 +18,10 @@ any_among x [] = refl
 any_among x (y ∷ clause) =
     ap (λ (b : Bool). b || list_any (λ z. eqb z x) clause) (eqb_turned y x ∙ sym (same_literal_lem x y))
     ∙ ap (λ (b : Bool). same_literal (literal_of x) (literal_of y) || b) (any_among x clause)
+
+pub any_found : (x : ℕ) (clause part : List ℕ) (r : Bool) → r ≡ list_any (λ y. eqb y x) part → part ≡ clause → r ≡ among (literal_of x) (map literal_of clause)
+any_found x clause part r f e = f ∙ rw e (any_among x clause)
+
+-- What is left of a list from its beginning on is all of it.
+pub from_nought : (n : ℕ) (l : List ℕ) → n ≡ 0 → take (length l - n) (drop n l) ≡ l
+from_nought n l e = let all : length l - 0 ≡ length l = omega arith in rw (e, all) (take-length l)

@@ -17,7 +17,6 @@ use Rattle.stepping.specs.declared.Refusal.TheVariants.{Deletion}
 
 -- Giving room back
 
--- Enough of the store belongs to live clauses.
 -- The deleted clauses went.
 pub back_moved : (heads lits : List ℕ) (b : Between) → Counted heads lits b → (heads' lits' : List ℕ) (r : Compacted) → AllMoved heads lits b.n heads' lits' r
     → GivesBack heads lits b heads' lits' (record { n = r.n; used = r.used; last = b.last; dead = 0 })

@@ -1,7 +1,7 @@
 -- Short numbers taken one after the other: each is a token that `feed` would have taken in the same way, as a literal or as a
 -- hint. Assumes nothing.
 use Rattle.std.specs.Prelude.{Some, Ok}
-use Rattle.std.proofs.Common.{ℕ, ◌+◌, ◌*◌, ◌/◌, ◌%◌, ◌≤◌, ◌<◌, ◌≡◌, refl, sym, ap, ◌∙◌, ⊎_elim, List, arith, le-leb, length, drop, set, length-set}
+use Rattle.std.proofs.Common.{ℕ, ◌+◌, ◌*◌, ◌/◌, ◌%◌, ◌≤◌, ◌<◌, ◌≡◌, refl, sym, subst, ap, ◌∙◌, ⊎_elim, List, arith, le-leb, length, drop, set, length-set}
 use Rattle.rules.specs.Limits.{max_variable, max_id}
 use Rattle.text.specs.Scan.{Scans, Short, ShortNumber}
 use Rattle.text.specs.declared.Token.{Token as Found}
@@ -27,6 +27,11 @@ short_taken s i code bytes m h l =
     (λ e. record { token = Minus h.size; scan = e.1; is = rw (item_of, le-leb h.size m (omega (arith, e.0, l))) (ap (λ (k : ℕ). Ok (Some k)) (sym e.0)) })
     h.case
 
+-- No hint is stored while literals are read.
+no_hints : {cells : ℕ} {s : List ℕ} {at used : ℕ} {lits₀ hints₀ lits hints : List ℕ} {i n end many : ℕ}
+    → Reading cells s at used lits₀ hints₀ lits hints i (phase_of Literals n end many) → many ≡ 0
+no_hints r = omega (arith, r.stands.noted.count, ap length r.stands.begun.1)
+
 module _ {s : List ℕ} {from first limit : ℕ} {slots₀ slots : List ℕ} {i end : ℕ} (a : Along s from first limit slots₀ slots i end)
     {r : ℕ} (short : Short i (drop i s) r) (some : r ≡ 0 → ⊥) (below : r / 16 < limit) (room : end < length slots) where
   number : ShortNumber i (drop i s) (r / 16) (r % 16)
@@ -46,9 +51,12 @@ module _ {s : List ℕ} {from first limit : ℕ} {slots₀ slots : List ℕ} {i 
   unfolding literal_fed stored
   literal_more cells start used lits₀ hints₀ hints n many lc lm rd =
       let t = taken max_variable lm in
-      let fed : FedBy (item_of max_variable t.token) end cells slots stored (literal_fed (phase_of Literals n end many)) (Ok (More (phase_of Literals n (end + 1) many))) =
+      let fed : FedBy (item_of max_variable t.token) end cells slots stored (literal_fed (phase_of Literals n end many)) (Ok (More (phase_of Literals n (end + 1) 0))) =
       record { kept = Ok (Some (end + 1)); keeps = record { case = (r / 16, t.is, omega arith, room, refl, refl) }; is = refl } in
-      reading_on rd t.scan (feeds_literal refl fed) refl
+      subst
+      (λ (k : ℕ). Reading cells s start used lits₀ hints₀ stored hints (i + r % 16) (phase_of Literals n (end + 1) k))
+      (sym (no_hints rd))
+      (reading_on rd t.scan (feeds_literal refl fed) refl)
 
   hint_more : (cells start used : ℕ) (lits₀ hints₀ lits : List ℕ) (n place : ℕ) → limit ≤ 2 * max_id + 2 → Reading cells s start used lits₀ hints₀ lits slots i (phase_of Hints n place end)
       → Reading cells s start used lits₀ hints₀ lits stored (i + r % 16) (phase_of Hints n place (end + 1))

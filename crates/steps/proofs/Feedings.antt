@@ -227,8 +227,10 @@ module _ {phase : Phase} {t : Found} {cells : ℕ} {lits hints : List ℕ} where
   none_placed : (x : Midway cells phase t lits hints) → x.stands.new ≡ [] → Placed x.lits₀ x.used [] lits phase.end
   none_placed x e = subst (λ (l : List ℕ). Placed x.lits₀ x.used l lits phase.end) e x.stands.placed
 
-  none-noted : (x : Midway cells phase t lits hints) → x.stands.told ≡ [] → Placed x.hints₀ 0 [] hints phase.many
-  none-noted x e = subst (λ (l : List ℕ). Placed x.hints₀ 0 l hints phase.many) e x.stands.noted
+  none-noted : (x : Midway cells phase t lits hints) → x.stands.told ≡ [] → Placed x.hints₀ 0 [] hints 0
+  none-noted x e =
+      let p : Placed x.hints₀ 0 [] hints phase.many = subst (λ (l : List ℕ). Placed x.hints₀ 0 l hints phase.many) e x.stands.noted in
+      subst (λ (k : ℕ). Placed x.hints₀ 0 [] hints k) p.count p
 
   -- What was kept decides, and at the end of the tokens nothing was.
   feeds_by : (x : Item) (place limit : ℕ) (before after lits' hints' : List ℕ) (fed : Kept → Outcome) (r : Outcome) → FedBy x place limit before after fed r
@@ -246,7 +248,7 @@ module _ {phase : Phase} {t : Found} {cells : ℕ} {lits hints : List ℕ} where
 
   -- A reader that stands at this phase and may take a literal.
   abbrev TakesLiteral : Midway cells phase t lits hints → Type 0
-  TakesLiteral x = LiteralsAt cells x.sofar x.token phase.id phase.end phase.many x.lits₀ x.used lits x.hints₀ hints
+  TakesLiteral x = LiteralsAt cells x.sofar x.token phase.id phase.end 0 x.lits₀ x.used lits x.hints₀ hints
 
   module _ (lits' : List ℕ) (r : Outcome) (at : (x : Midway cells phase t lits hints) → TakesLiteral x)
       (fed : FedBy (item_of max_variable t) phase.end cells lits lits' (literal_fed phase) r) where
@@ -293,7 +295,7 @@ module _ {phase : Phase} {t : Found} {cells : ℕ} {lits hints : List ℕ} where
       }
 
   in_deletion : phase.kind ≡ Body → t ≡ LetterD → (x : Midway cells phase t lits hints)
-      → GoesOn cells x.sofar x.token (phase_of Ids phase.id phase.end phase.many) x.lits₀ x.used lits x.hints₀ hints
+      → GoesOn cells x.sofar x.token (phase_of Ids phase.id phase.end 0) x.lits₀ x.used lits x.hints₀ hints
   in_deletion e q x =
       let b = stands_begun Body e x in
       record {

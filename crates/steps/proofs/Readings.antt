@@ -29,7 +29,7 @@ use Rattle.steps.proofs.Feedings.{placed_none, placed_same}
 
 -- The end of the text
 
-abbrev is_nothing : Found → Bool
+abbrev pub is_nothing : Found → Bool
 is_nothing Nought = false
 is_nothing (Plus v) = false
 is_nothing (Minus v) = false

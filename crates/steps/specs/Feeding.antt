@@ -76,8 +76,8 @@ phase_of k n end many = record { kind = k; id = n; end = end; many = many }
 
 -- Of a literal.
 unfoldable pub literal_fed : Phase → Kept → Outcome
-literal_fed phase (Ok (Some end)) = Ok (More (phase_of Literals phase.id end phase.many))
-literal_fed phase (Ok None) = Ok (More (phase_of Hints phase.id phase.end phase.many))
+literal_fed phase (Ok (Some end)) = Ok (More (phase_of Literals phase.id end 0))
+literal_fed phase (Ok None) = Ok (More (phase_of Hints phase.id phase.end 0))
 literal_fed phase (Err e) = Err e
 
 -- Of a hint or an id to delete, where the step is `whole` with the 0 behind the last one.
@@ -88,7 +88,7 @@ code_fed phase whole (Err e) = Err e
 
 -- A token where nothing is read.
 abbrev pub start_fed : Phase → Option ℕ → Outcome
-start_fed phase (Some n) = Ok (More (phase_of Body n phase.end phase.many))
+start_fed phase (Some n) = Ok (More (phase_of Body n phase.end 0))
 start_fed phase None = Err Unreadable
 
 pub record FedStart (phase : Phase) (t : Found) (r : Outcome) : Type 0 where
@@ -96,7 +96,7 @@ pub record FedStart (phase : Phase) (t : Found) (r : Outcome) : Type 0 where
 
 -- A token behind the id: the letter d, or the first of the literals.
 abbrev pub BodyCase : Bool → Phase → Found → ℕ → List ℕ → List ℕ → Outcome → Type 0
-BodyCase true phase t cells lits lits' r = (t ≡ LetterD) × (r ≡ Ok (More (phase_of Ids phase.id phase.end phase.many))) × (lits' ≡ lits)
+BodyCase true phase t cells lits lits' r = (t ≡ LetterD) × (r ≡ Ok (More (phase_of Ids phase.id phase.end 0))) × (lits' ≡ lits)
 BodyCase false phase t cells lits lits' r = (t ≡ LetterD → ⊥) × FedBy (item_of max_variable t) phase.end cells lits lits' (literal_fed phase) r
 
 pub record FedBody (phase : Phase) (t : Found) (cells : ℕ) (lits lits' : List ℕ) (r : Outcome) : Type 0 where

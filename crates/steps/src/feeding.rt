@@ -100,6 +100,7 @@ impl Phase {
         Ok(Fed::More(Phase {
             kind: Kind::Body,
             id,
+            many: 0,
             ..self
         }))
     }
@@ -113,10 +114,12 @@ impl Phase {
             Some(end) => Phase {
                 kind: Kind::Literals,
                 end,
+                many: 0,
                 ..self
             },
             None => Phase {
                 kind: Kind::Hints,
+                many: 0,
                 ..self
             },
         };
@@ -130,6 +133,7 @@ impl Phase {
         if t == Token::LetterD {
             return Ok(Fed::More(Phase {
                 kind: Kind::Ids,
+                many: 0,
                 ..self
             }));
         }

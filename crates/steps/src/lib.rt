@@ -53,6 +53,7 @@ pub struct Stopped {
 // in the slice from `first` on. Nearly all tokens of a proof in use are taken here; whatever is not as expected is left to
 // `feed`, which decides. (The whole slice and a place in it, and not what lies behind: a place is what the reader keeps. Two numbers
 // come back in registers; tried: the second behind a `&mut`, with a fiftieth more instructions where steps are short.)
+#[inline(always)]
 fn along(s: &[u8], from: usize, limit: u64, slots: &mut [u32], first: usize) -> Progress
     requires from_in_bounds { from ≤ length s.now }
     requires limit_bound { limit ≤ 2 ^ 32 }

@@ -72,5 +72,5 @@ sized_tens v tens h l few =
     let below = length-below tens v (omega (arith, pow-suc 10 tens)) in
     record { is = omega arith; some = omega arith; few = omega arith }
 
-pub sized_none : (v : ℕ) → v ≡ 0 → Sized (decimal v) 1 20
-sized_none v e = record { is = sym (length_small v (omega arith)); some = omega arith; few = omega arith }
+pub sized_small : (v : ℕ) → v < 10 → Sized (decimal v) 1 20
+sized_small v h = record { is = sym (length_small v h); some = omega arith; few = omega arith }

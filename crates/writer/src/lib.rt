@@ -24,10 +24,10 @@ use clauses::{Timed, View};
 pub fn digits_in(v: u64) -> usize
     ensures { Sized (decimal v) result 20 }
 {
-    match v.checked_ilog10() {
-        Some(tens) => tens as usize + 1,
-        None => 1,
+    if v < 10 {
+        return 1;
     }
+    v.ilog10() as usize + 1
 }
 
 // The byte of one digit.
@@ -66,6 +66,10 @@ pub fn write_number(out: &mut [u8], at: usize, v: u64) -> usize
     requires { Room out.old at (decimal v) }
     ensures { Wrote out.old at (decimal v) out.new result }
 {
+    // One digit takes no division: most variables of a small formula have no more.
+    if v < 10 {
+        return write_byte(out, at, digit(v));
+    }
     let end = at + digits_in(v);
     write_digits(&mut out[at..end], v);
     end

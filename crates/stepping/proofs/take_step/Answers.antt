@@ -1,5 +1,5 @@
 -- `take_step` meets its contract: the step is read, and by what was read it is judged. Assumes nothing.
-use Rattle.std.proofs.Common.{arith, ap, Some, ◌∙◌}
+use Rattle.std.proofs.Common.{arith, rules, ap, Some, ◌∙◌}
 use Rattle.stepping.proofs.Spending.{spent_most}
 use Rattle.stepping.proofs.Taking.{addition_addable, addition-taken, deletion-taken}
 use Rattle.stepping.proofs.Taking.{stopped_taken}
@@ -27,5 +27,5 @@ returns-in-Some-Deletion-clause-step c =
 
 pub returns-in-Err-clause-step : goal.returns-in-Err-clause-step
 returns-in-Err-clause-step c =
-    stopped_taken _ _ _ _ _ _ _ _ c.requires.keeps _ _ _ c.read_step.ensures _ c.in-Err.is _ _ _ _ _ _ _ c.unread-in-Err.ensures.outcome c.from.ensures
+    stopped_taken _ _ _ _ _ _ _ _ c.requires.keeps _ _ _ c.read_step.ensures _ c.in-Err.is _ _ _ _ _ _ _ (search rules) c.from.ensures
     c.unread-in-Err.ensures.turns

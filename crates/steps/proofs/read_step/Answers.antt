@@ -32,7 +32,7 @@ returns-in-Ok-Deletion c =
 pub returns-then-eq : goal.returns-then-eq
 returns-then-eq c =
     let over : c.token_at-token.result.token ≡ Nothing = search rules in
-    reading_none c.loop-on.invariant c.token_at-token.ensures c.feed.ensures (c.feed.ensures.at_end_lem over) over c.if-i-at.true
+    reading_none c.loop-on.invariant c.token_at-token.ensures c.feed.ensures (c.feed.ensures.at_end_lem over) over (omega (arith, c.if-i-at.true, c.loop-on.invariant.later))
 
 pub returns-in-Err : goal.returns-in-Err
 returns-in-Err c =

@@ -1,6 +1,7 @@
 -- `opening::announced` meets its contract: the prefix, the number before the first space behind it, the number behind that
 -- space. Assumes nothing.
-use Rattle.formula.proofs.Headers.{header_off, header_vars, header_clauses, header_both}
+use Rattle.std.proofs.Common.{rules}
+use Rattle.formula.proofs.Headers.{header_off, header_vars, header_clauses, header_both, uncut}
 use Rattle.formula.proofs.opening.announced.Goals as goal
 
 pub returns-in_err-numbers : goal.returns-in_err-numbers
@@ -18,4 +19,4 @@ returns-in_err-clauses c =
 
 pub returns : goal.returns
 returns c =
-    header_both _ _ c.in_ok-numbers.ensures.cases.0 c.in_ok-numbers.ensures.cases.1 _ c.place_of-space.ensures _ c.in_ok-vars.ensures _ c.behind.ensures _ c.in_ok-clauses.ensures
+    header_both _ _ c.in_ok-numbers.ensures.cases.0 (search (rules, uncut, c.in_ok-numbers.ensures.cases.1)) _ c.place_of-space.ensures _ c.in_ok-vars.ensures _ c.behind.ensures _ c.in_ok-clauses.ensures
