@@ -1,6 +1,6 @@
 -- A literal among those of a clause. Assumes nothing.
 use Rattle.std.proofs.Math.Seq.{take-length}
-use Rattle.std.proofs.Common.{◌-◌, length, take, drop, ℕ, ◌≡◌, Bool, ◌||◌, List, [], ◌∷◌, map, eqb}
+use Rattle.std.proofs.Common.{◌-◌, length, take, drop, ℕ, ◌≡◌, Bool, ◌||◌, List, [], ◌∷◌, map, eqb, min}
 use Rattle.std.proofs.Common.{arith, refl, sym, ap, ◌∙◌, eqb-true, eq-eqb, ne_eqb}
 use borrow.Author.Tests.{eqb-false}
 use Rattle.meaning.proofs.Truth.{bool_cases}
@@ -25,3 +25,6 @@ any_found x clause part r f e = f ∙ rw e (any_among x clause)
 -- What is left of a list from its beginning on is all of it.
 pub from_nought : (n : ℕ) (l : List ℕ) → n ≡ 0 → take (length l - n) (drop n l) ≡ l
 from_nought n l e = let all : length l - 0 ≡ length l = omega arith in rw (e, all) (take-length l)
+
+pub least_nought : (n k : ℕ) → n ≡ min 0 k → n ≡ 0
+least_nought n k e = omega (arith, e)

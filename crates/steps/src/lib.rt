@@ -52,7 +52,8 @@ pub struct Stopped {
 // Takes short numbers one after the other from `from` on, as long as their codes are below `limit` and there is room for them
 // in the slice from `first` on. Nearly all tokens of a proof in use are taken here; whatever is not as expected is left to
 // `feed`, which decides. (The whole slice and a place in it, and not what lies behind: a place is what the reader keeps. Two numbers
-// come back in registers; tried: the second behind a `&mut`, with a fiftieth more instructions where steps are short.)
+// come back, and not the second behind a `&mut`: that took a fiftieth more instructions where steps are short. It is made one with its
+// callers: else steps of other tokens take up to 1.3 times the time.)
 #[inline(always)]
 fn along(s: &[u8], from: usize, limit: u64, slots: &mut [u32], first: usize) -> Progress
     requires from_in_bounds { from ≤ length s.now }
