@@ -1,8 +1,6 @@
 -- Laws of looking at a clause: what is kept of the literals that are not false says what the document's definition, which
 -- takes them out first, says. The code keeps it as two numbers, and the laws as a value of `Open`. Assumes nothing.
-use Rattle.std.specs.Int.{div_ceil}
-use Rattle.std.proofs.lemmas.Grind.{div_ceil_times}
-use Rattle.std.proofs.Common.{ℕ, zero, suc, ◌+◌, ◌*◌, ◌<◌, ◌≤◌, ◌≡◌, true, false, List, [], ◌∷◌, map, eqb, length, get_or, drop}
+use Rattle.std.proofs.Common.{ℕ, zero, suc, ◌+◌, ◌*◌, ◌/◌, ◌<◌, ◌≤◌, ◌≡◌, true, false, List, [], ◌∷◌, map, eqb, length, get_or, drop}
 use Rattle.std.proofs.Common.{refl, sym, ap, subst, ◌∙◌, ⊎_elim, add-one, arith, eqb-true, eq-eqb, ne_eqb, drop_of_length-le, drop-cons, add_assoc}
 use borrow.Author.Tests.{eqb-false}
 use Rattle.meaning.specs.Meaning.{Literal, Clause}
@@ -292,11 +290,11 @@ module _ (clause marks : List ℕ) (others last i : ℕ) (l : Looking clause mar
 -- Two literals to a turn
 
 -- Each of the turns begins inside of the clause, and behind the last nothing is left.
-pub turn_inside : (n turns k : ℕ) → k < turns → turns ≡ div_ceil n 2 → 2 * k < n
-turn_inside n turns k h e = omega (arith, div_ceil_times n 2 (omega arith))
+pub turn_inside : (n turns k : ℕ) → k < turns → turns ≡ (n + 1) / 2 → 2 * k < n
+turn_inside n turns k h e = omega arith
 
-pub turns_past : (n turns k : ℕ) → turns ≤ k → turns ≡ div_ceil n 2 → n ≤ 2 * k
-turns_past n turns k h e = omega (arith, div_ceil_times n 2 (omega arith))
+pub turns_past : (n turns k : ℕ) → turns ≤ k → turns ≡ (n + 1) / 2 → n ≤ 2 * k
+turns_past n turns k h e = omega arith
 
 -- One literal alone
 

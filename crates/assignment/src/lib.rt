@@ -125,7 +125,7 @@ pub fn look_at(clause: &[u32], marks: &[u8]) -> Look
 {
     let mut others: usize = 0;
     let mut last: u32 = u32::MAX;
-    for k in 0..clause.len().div_ceil(2) {
+    for k in 0..(clause.len() + 1) / 2 {
         let i = 2 * k;
         let x = clause[i];
         let y = clause[behind(i, clause.len())];

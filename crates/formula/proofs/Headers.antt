@@ -212,6 +212,6 @@ module _ (line numbers : List ℕ) (p : pointwise eqb (take 6 line) (bytes "p cn
         rw (prefix, f.is_before, count_of_some (count max_variable (token (take space numbers))) v is, ← rest_is)
         (rw (count_of_some (count max_clauses (token (take (length numbers - r) (drop r numbers)))) c e))
 
--- A cut at the beginning leaves all of a list.
+-- A cut at the beginning leaves all of a list: a mistake in the prefix is refused for the prefix, and not for a cut that comes with it.
 pub uncut : (l whole : List ℕ) → l ≡ whole → take (length l - 0) l ≡ whole
 uncut l whole e = let all : length l - 0 ≡ length l = omega arith in rw all (take-length l ∙ e)

@@ -22,7 +22,8 @@ any_among x (y ∷ clause) =
 pub any_found : (x : ℕ) (clause part : List ℕ) (r : Bool) → r ≡ list_any (λ y. eqb y x) part → part ≡ clause → r ≡ among (literal_of x) (map literal_of clause)
 any_found x clause part r f e = f ∙ rw e (any_among x clause)
 
--- What is left of a list from its beginning on is all of it.
+-- What is left of a list from its beginning on is all of it: a clause that is looked at from a later place on is refused for the place, and
+-- not for being cut.
 pub from_nought : (n : ℕ) (l : List ℕ) → n ≡ 0 → take (length l - n) (drop n l) ≡ l
 from_nought n l e = let all : length l - 0 ≡ length l = omega arith in rw (e, all) (take-length l)
 
